@@ -1,0 +1,2 @@
+-- The laws of the model that the layers cite, and the theorem of the worked cases.
+pub mod Cases

@@ -1,0 +1,165 @@
+-- The starred worked cases of document 01, as one list; proofs/Cases.antt proves them by one theorem. Assumes nothing.
+use mathlib.Core.Path.{_≡_}
+use mathlib.Core.List.{List, [], _∷_, _++_}
+use mathlib.Core.Option.{Option, none, some}
+use Prim.Native.Nat.{ℕ, _+_, _/_, _%_}
+use lib.IntN.{pos}
+use lib.ListN.{length}
+use Rattle.model.specs.Refusals.{Answer, answered, refused}
+use Rattle.model.specs.Loop.{Use, Loop}
+use Rattle.model.specs.File.{readFile}
+use Rattle.model.specs.Bounds.{Lower, BoundsIs}
+use Rattle.model.specs.Search.{Request, Outcome, found, SearchIs, orderOf}
+use Rattle.model.specs.Session.{Setup, Starts, Call, place, force, remove, checkpoint, rollback, Reply, done, displaced, numbered, start, after, replies, openFile, stateTable}
+use Rattle.model.specs.Verifier.{Verdict, legal, breach, clash, verifyFile}
+
+-- ---- what a case claims
+
+-- the reading of a file; its bounds; the verdict on a list of starts; what a search answers, with 64 numbers and 4,096 rows lent;
+-- and the replies, starts and rows of calls on a session opened with 4,096 rows lent
+pub data Case : Type 0 where
+  reads : (f : List ℕ) → Answer Loop → Case
+  bounded : (f : List ℕ) → Answer Lower → Case
+  judged : (f : List ℕ) (ii : ℕ) (xs : List ℕ) → Answer Verdict → Case
+  searched : (f : List ℕ) → Request → Answer Outcome → Case
+  called : (f : List ℕ) (ii horizon : ℕ) → List Call → List (Answer Reply) → Starts → List ℕ → Case
+
+-- that the calls were made on a session that opened, and what they left
+pub record Called (f : List ℕ) (ii horizon : ℕ) (cs : List Call) (rs : List (Answer Reply)) (xs : Starts) (rows : List ℕ) : Type 0 where
+  pub setup : Setup
+  pub opens : openFile f ii horizon 4096 ≡ answered setup
+  pub answers : replies setup cs (start setup) ≡ rs
+  pub starts : after setup cs (start setup) .starts ≡ xs
+  pub table : stateTable setup (after setup cs (start setup)) ≡ rows
+
+-- the case holds
+abbrev pub Holds : Case → Type 0
+Holds (reads f a) = readFile f ≡ a
+Holds (bounded f a) = BoundsIs f a
+Holds (judged f ii xs a) = verifyFile f ii xs ≡ a
+Holds (searched f q a) = SearchIs f q 64 4096 a
+Holds (called f ii horizon cs rs xs rows) = Called f ii horizon cs rs xs rows
+
+-- every case of the list holds
+abbrev pub AllHold : List Case → Type 0
+AllHold [] = Unit {0}
+AllHold (c ∷ cs) = Holds c × AllHold cs
+
+-- ---- the loops
+
+-- a number as two bytes, little-endian
+abbrev word : ℕ → List ℕ
+word n = n % 256 ∷ n / 256 ∷ []
+
+-- a version 1 file with these bodies; that it is one is what the cases' readings show
+abbrev pub fileWith : (oper uses deps : List ℕ) → List ℕ
+fileWith oper uses deps =
+    1 ∷ 3 ∷ 79 ∷ 80 ∷ 69 ∷ 82 ∷ word 26 ++ word (length oper)
+    ++ (85 ∷ 83 ∷ 69 ∷ 83 ∷ word (26 + length oper)) ++ word (length uses)
+    ++ (68 ∷ 69 ∷ 80 ∷ 83 ∷ word (26 + length oper + length uses)) ++ word (length deps)
+    ++ oper ++ uses ++ deps
+
+-- loop A, byte by byte: 50 bytes, bodies at 26, 32 and 38
+abbrev pub fileA : List ℕ
+fileA =
+    1 ∷ 3
+    ∷ 79 ∷ 80 ∷ 69 ∷ 82 ∷ 26 ∷ 0 ∷ 6 ∷ 0
+    ∷ 85 ∷ 83 ∷ 69 ∷ 83 ∷ 32 ∷ 0 ∷ 6 ∷ 0
+    ∷ 68 ∷ 69 ∷ 80 ∷ 83 ∷ 38 ∷ 0 ∷ 12 ∷ 0
+    ∷ 2 ∷ 1 ∷ 3 ∷ 1 ∷ 1 ∷ 1
+    ∷ 1 ∷ 1 ∷ 2 ∷ 2 ∷ 1 ∷ 1
+    ∷ 0 ∷ 1 ∷ 2 ∷ 0 ∷ 1 ∷ 2 ∷ 3 ∷ 0 ∷ 1 ∷ 1 ∷ 3 ∷ 1
+    ∷ []
+
+-- a use from the operation's start on
+abbrev pub at-once : ℕ → ℕ → Use
+at-once slot duration = record { slot = slot; offset = 0; duration = duration }
+
+-- the loop that A's file describes
+abbrev pub loopA : Loop
+loopA = record {
+    ops =
+        record { latency = 2; uses = at-once 1 1 ∷ [] }
+        ∷ record { latency = 3; uses = at-once 2 2 ∷ [] }
+        ∷ record { latency = 1; uses = at-once 1 1 ∷ [] }
+        ∷ [];
+    deps =
+        record { src = 0; dst = 1; delay = pos 2; distance = 0 }
+        ∷ record { src = 1; dst = 2; delay = pos 3; distance = 0 }
+        ∷ record { src = 1; dst = 1; delay = pos 3; distance = 1 }
+        ∷ [] }
+
+-- loop B: -3 is the byte 253
+abbrev pub fileB : List ℕ
+fileB = fileWith (1 ∷ 1 ∷ 1 ∷ 1 ∷ []) (1 ∷ 1 ∷ 1 ∷ 1 ∷ []) (0 ∷ 1 ∷ 3 ∷ 0 ∷ 1 ∷ 0 ∷ 253 ∷ 0 ∷ [])
+
+-- loop B2
+abbrev pub fileB2 : List ℕ
+fileB2 = fileWith (1 ∷ 1 ∷ 1 ∷ 1 ∷ 1 ∷ 1 ∷ []) (1 ∷ 1 ∷ 1 ∷ 1 ∷ 3 ∷ 3 ∷ []) (0 ∷ 1 ∷ 3 ∷ 0 ∷ 1 ∷ 0 ∷ 253 ∷ 0 ∷ [])
+
+-- loop C
+abbrev pub fileC : List ℕ
+fileC = fileWith (1 ∷ 1 ∷ 1 ∷ 1 ∷ []) (1 ∷ 1 ∷ 2 ∷ 1 ∷ []) (1 ∷ 0 ∷ 2 ∷ 0 ∷ [])
+
+-- two operations without uses, and the dependences 0-1 and 1-0 with these delays (as bytes) and distances
+abbrev pub ring : (delay distance delay′ distance′ : ℕ) → List ℕ
+ring delay distance delay′ distance′ = fileWith (1 ∷ 0 ∷ 1 ∷ 0 ∷ []) [] (0 ∷ 1 ∷ delay ∷ distance ∷ 1 ∷ 0 ∷ delay′ ∷ distance′ ∷ [])
+
+-- one operation without uses, and the dependence 0-0-0-0
+abbrev pub idle : List ℕ
+idle = fileWith (1 ∷ 0 ∷ []) [] (0 ∷ 0 ∷ 0 ∷ 0 ∷ [])
+
+-- one operation that uses slot 1 for 4 cycles
+abbrev pub four : List ℕ
+four = fileWith (1 ∷ 1 ∷ []) (1 ∷ 4 ∷ []) []
+
+-- ---- the list
+
+-- an answer of bounds
+abbrev bothAre : ℕ → ℕ → Answer Lower
+bothAre resource recurrence = answered (record { resource = resource; recurrence = recurrence })
+
+-- an answer of a search
+abbrev foundAt : (ii resource recurrence stages count : ℕ) → List ℕ → Answer Outcome
+foundAt ii resource recurrence stages count xs =
+    answered (found (record { ii = ii; bounds = record { resource = resource; recurrence = recurrence }; stages = stages; count = count; starts = xs }))
+
+-- cases 1, 2, 3, 4, 6, 7, 8, 9, 10, 11, 12, in this order; before them the reading of loop A
+abbrev pub starred : List Case
+starred =
+    reads fileA (answered loopA)
+    -- 1
+    ∷ bounded fileA (bothAre 2 3)
+    -- 2
+    ∷ judged fileA 3 (0 ∷ 2 ∷ 5 ∷ []) (answered legal)
+    ∷ judged fileA 3 (0 ∷ 2 ∷ 4 ∷ []) (answered (breach 1))
+    -- 3
+    ∷ judged fileB 2 (0 ∷ 3 ∷ []) (answered legal)
+    ∷ judged fileB 3 (0 ∷ 3 ∷ []) (answered (clash 0 1))
+    ∷ judged fileB 4 (0 ∷ 3 ∷ []) (answered legal)
+    -- 4; the stage count is 5 divided by 4, rounded up
+    ∷ searched fileB2 (record { cap = 4; horizon = 8; budget = 1000000 }) (foundAt 4 3 1 2 78 (0 ∷ 3 ∷ 0 ∷ []))
+    -- 6; the stage count is 4 divided by 1
+    ∷ searched fileC (record { cap = 4096; horizon = 8; budget = 1000000 }) (foundAt 1 1 1 4 20 (2 ∷ 0 ∷ []))
+    -- 7; -1 is the byte 255
+    ∷ bounded (ring 1 0 0 0) (refused (record { number = 8; detail = 0 }))
+    ∷ bounded (ring 1 0 255 0) (bothAre 1 1)
+    -- 8
+    ∷ bounded idle (bothAre 1 1)
+    -- 9
+    ∷ bounded (ring 3 1 4 1) (bothAre 1 4)
+    ∷ bounded (ring 4 1 4 1) (bothAre 1 4)
+    ∷ bounded (ring 4 1 5 1) (bothAre 1 5)
+    -- 10
+    ∷ judged four 3 (0 ∷ []) (answered (clash 0 0))
+    ∷ judged four 4 (0 ∷ []) (answered legal)
+    -- 11
+    ∷ called fileA 3 256 (place 0 0 ∷ place 1 2 ∷ []) (answered done ∷ answered done ∷ []) (some 0 ∷ some 2 ∷ none ∷ []) (3 ∷ 0 ∷ 2 ∷ [])
+    ∷ called fileA 3 256 (place 0 0 ∷ place 1 2 ∷ remove 0 ∷ []) (answered done ∷ answered done ∷ answered done ∷ [])
+        (none ∷ some 2 ∷ none ∷ []) (2 ∷ 0 ∷ 2 ∷ [])
+    -- 12
+    ∷ called fileA 3 256 (place 0 0 ∷ checkpoint ∷ force 2 3 ∷ []) (answered done ∷ answered (numbered 1) ∷ answered (displaced 1) ∷ [])
+        (none ∷ none ∷ some 3 ∷ []) (1 ∷ 0 ∷ 0 ∷ [])
+    ∷ called fileA 3 256 (place 0 0 ∷ checkpoint ∷ force 2 3 ∷ rollback 1 ∷ [])
+        (answered done ∷ answered (numbered 1) ∷ answered (displaced 1) ∷ answered done ∷ []) (some 0 ∷ none ∷ none ∷ []) (1 ∷ 0 ∷ 0 ∷ [])
+    ∷ []

@@ -1,0 +1,233 @@
+-- The loop file: what its bytes say, and what a file is refused for, in file order. Assumes nothing.
+use mathlib.Core.Path.{_≡_}
+use mathlib.Core.Bool.{Bool, true, false, not, cond, _&&_, _||_}
+use mathlib.Core.List.{List, [], _∷_, _++_, map, flatMap}
+use mathlib.Core.Option.{Option, none, some}
+use Prim.Native.Nat.{ℕ, zero, suc, _+_, _-_, _*_, _/_, _%_, min}
+use lib.Dec.{eqb, leb, ltb}
+use lib.IntN.{ℤ, pos, negsuc}
+use lib.ListN.{length, getD, take, drop}
+use lib.Signed.{leZ}
+use Rattle.model.specs.Lists.{upFrom}
+use Rattle.model.specs.Loop.{Use, Op, Dep, Loop}
+use Rattle.model.specs.Refusals.{Refusal, Check, check, firstRefusal, Answer, answered, refused, settle}
+
+-- ---- numbers in the file
+
+-- byte i of the file f, 0 past its end
+abbrev pub byteAt : List ℕ → ℕ → ℕ
+byteAt f i = getD f i 0
+
+-- the number of two bytes at i, little-endian
+abbrev pub wordAt : List ℕ → ℕ → ℕ
+wordAt f i = byteAt f i + 256 * byteAt f (i + 1)
+
+-- a byte as a signed number, by two's complement
+unfoldable pub signedByte : ℕ → ℤ
+signedByte n = cond (ltb n 128) (pos n) (negsuc (255 - n))
+
+-- ---- the contents
+
+-- a section: the offset of its entry in the contents, its tag, the bytes of a record, and how many records it may have
+pub record Section : Type 0 where
+  pub entry : ℕ
+  pub tag : List ℕ
+  pub width : ℕ
+  pub least : ℕ
+  pub most : ℕ
+
+-- the operations; the tag is "OPER"
+abbrev pub oper : Section
+oper = record { entry = 2; tag = 79 ∷ 80 ∷ 69 ∷ 82 ∷ []; width = 2; least = 1; most = 64 }
+
+-- the uses of all operations; the tag is "USES"
+abbrev pub uses : Section
+uses = record { entry = 10; tag = 85 ∷ 83 ∷ 69 ∷ 83 ∷ []; width = 2; least = 0; most = 256 }
+
+-- the dependences; the tag is "DEPS"
+abbrev pub deps : Section
+deps = record { entry = 18; tag = 68 ∷ 69 ∷ 80 ∷ 83 ∷ []; width = 4; least = 0; most = 256 }
+
+-- the offset and the length that a section's entry gives, and the number of whole records in that length
+abbrev pub offsetOf : List ℕ → Section → ℕ
+offsetOf f s = wordAt f (s .entry + 4)
+
+-- the length in bytes
+abbrev pub lengthOf : List ℕ → Section → ℕ
+lengthOf f s = wordAt f (s .entry + 6)
+
+-- the number of whole records
+abbrev pub recordsOf : List ℕ → Section → ℕ
+recordsOf f s = lengthOf f s / s .width
+
+-- where each body begins: the first after the contents, each other where the one before ends
+abbrev pub operAt : ℕ
+operAt = 26
+
+-- the beginning of the body USES
+abbrev pub usesAt : List ℕ → ℕ
+usesAt f = operAt + lengthOf f oper
+
+-- the beginning of the body DEPS
+abbrev pub depsAt : List ℕ → ℕ
+depsAt f = usesAt f + lengthOf f uses
+
+-- the end of the last body
+abbrev pub endAt : List ℕ → ℕ
+endAt f = depsAt f + lengthOf f deps
+
+-- ---- the records
+
+-- the number of operations, and of dependences
+abbrev pub opCount : List ℕ → ℕ
+opCount f = recordsOf f oper
+
+-- the number of dependences
+abbrev pub depCount : List ℕ → ℕ
+depCount f = recordsOf f deps
+
+-- where the record of operation o stands: latency, then number of uses
+abbrev pub opRecord : ℕ → ℕ
+opRecord o = operAt + 2 * o
+
+-- the number of uses of operation o
+abbrev pub usesOf : List ℕ → ℕ → ℕ
+usesOf f o = byteAt f (opRecord o + 1)
+
+-- the number of uses of the operations before o: the number of o's first use among all uses
+unfoldable pub firstUse : List ℕ → ℕ → ℕ
+firstUse f zero = 0
+firstUse f (suc o) = firstUse f o + usesOf f o
+
+-- where the record of use u of all stands: slot, then duration
+abbrev pub useRecord : List ℕ → ℕ → ℕ
+useRecord f u = usesAt f + 2 * u
+
+-- where the record of dependence e stands: from, to, delay, distance
+abbrev pub depRecord : List ℕ → ℕ → ℕ
+depRecord f e = depsAt f + 4 * e
+
+-- ---- the loop that the bytes describe
+
+-- use u of all
+abbrev pub useIn : List ℕ → ℕ → Use
+useIn f u = record { slot = byteAt f (useRecord f u); offset = 0; duration = byteAt f (useRecord f u + 1) }
+
+-- operation o
+abbrev pub opIn : List ℕ → ℕ → Op
+opIn f o = record { latency = byteAt f (opRecord o); uses = map (useIn f) (upFrom (firstUse f o) (usesOf f o)) }
+
+-- dependence e
+abbrev pub depIn : List ℕ → ℕ → Dep
+depIn f e = record {
+    src = byteAt f (depRecord f e);
+    dst = byteAt f (depRecord f e + 1);
+    delay = signedByte (byteAt f (depRecord f e + 2));
+    distance = byteAt f (depRecord f e + 3) }
+
+-- the loop
+unfoldable pub loopOf : List ℕ → Loop
+loopOf f = record { ops = map (opIn f) (upFrom 0 (opCount f)); deps = map (depIn f) (upFrom 0 (depCount f)) }
+
+-- ---- what a file is refused for (document 01's table, 1 to 6), in file order
+
+-- 1: the file's length
+unfoldable pub lengthChecks : List ℕ → List Check
+lengthChecks f = check (ltb (length f) 26 || ltb 1690 (length f)) 1 (min (length f) 1691) ∷ []
+
+-- 2: the version, then the number of entries
+unfoldable pub headChecks : List ℕ → List Check
+headChecks f = check (not (eqb (byteAt f 0) 1)) 2 0 ∷ check (not (eqb (byteAt f 1) 3)) 2 1 ∷ []
+
+-- whether these bytes stand at i
+unfoldable pub standsAt : List ℕ → ℕ → List ℕ → Bool
+standsAt f i [] = true
+standsAt f i (b ∷ bs) = eqb (byteAt f i) b && standsAt f (suc i) bs
+
+-- 3: the entry of a section whose body must begin at `start`: tag, offset, length
+unfoldable pub entryChecks : List ℕ → Section → ℕ → List Check
+entryChecks f s start =
+    check (not (standsAt f (s .entry) (s .tag))) 3 (s .entry)
+    ∷ check (not (eqb (offsetOf f s) start)) 3 (s .entry)
+    ∷ check (not (eqb (lengthOf f s % s .width) 0)) 3 (s .entry)
+    ∷ check (ltb (recordsOf f s) (s .least) || ltb (s .most) (recordsOf f s)) 3 (s .entry)
+    ∷ []
+
+-- 3: the three entries, and that the last body ends where the file does
+unfoldable pub contentsChecks : List ℕ → List Check
+contentsChecks f =
+    entryChecks f oper operAt ++ entryChecks f uses (usesAt f) ++ entryChecks f deps (depsAt f)
+    ++ (check (not (eqb (endAt f) (length f))) 3 (deps .entry) ∷ [])
+
+-- 4: latency 0 to 64, and number of uses 0 to 4, of operation o
+unfoldable pub opChecks : List ℕ → ℕ → List Check
+opChecks f o =
+    check (ltb 64 (byteAt f (opRecord o))) 4 (opRecord o)
+    ∷ check (ltb 4 (byteAt f (opRecord o + 1))) 4 (opRecord o + 1)
+    ∷ []
+
+-- the slot that use j of operation o has to be above: that of the operation's use before, 0 where there is none
+abbrev pub slotBelow : List ℕ → ℕ → ℕ → ℕ
+slotBelow f o zero = 0
+slotBelow f o (suc j) = byteAt f (useRecord f (firstUse f o + j))
+
+-- 5: use j of operation o, which is use u of all: slot 1 to 24 and rising, duration 1 to 16
+unfoldable pub useChecks : List ℕ → ℕ → ℕ → ℕ → List Check
+useChecks f o u j =
+    check (leb (byteAt f (useRecord f u)) (slotBelow f o j) || ltb 24 (byteAt f (useRecord f u))) 5 (useRecord f u)
+    ∷ check (ltb (byteAt f (useRecord f u + 1)) 1 || ltb 16 (byteAt f (useRecord f u + 1))) 5 (useRecord f u + 1)
+    ∷ []
+
+-- 5: the length of the body, at its start; then operation by operation, use by use
+unfoldable pub usesChecks : List ℕ → List Check
+usesChecks f =
+    check (not (eqb (lengthOf f uses) (uses .width * firstUse f (opCount f)))) 5 (usesAt f)
+    ∷ flatMap (λ o. flatMap (λ j. useChecks f o (firstUse f o + j) j) (upFrom 0 (usesOf f o))) (upFrom 0 (opCount f))
+
+-- 6: from, to, delay -64 to 64 and distance 0 to 15 of dependence e
+unfoldable pub depChecks : List ℕ → ℕ → List Check
+depChecks f e =
+    check (leb (opCount f) (byteAt f (depRecord f e))) 6 (depRecord f e)
+    ∷ check (leb (opCount f) (byteAt f (depRecord f e + 1))) 6 (depRecord f e + 1)
+    ∷ check (not (leZ (negsuc 63) (signedByte (byteAt f (depRecord f e + 2))) && leZ (signedByte (byteAt f (depRecord f e + 2))) (pos 64))) 6 (depRecord f e + 2)
+    ∷ check (ltb 15 (byteAt f (depRecord f e + 3))) 6 (depRecord f e + 3)
+    ∷ []
+
+-- 1 to 6
+unfoldable pub fileChecks : List ℕ → List Check
+fileChecks f =
+    lengthChecks f ++ headChecks f ++ contentsChecks f
+    ++ flatMap (opChecks f) (upFrom 0 (opCount f))
+    ++ usesChecks f
+    ++ flatMap (depChecks f) (upFrom 0 (depCount f))
+
+-- ---- what the reader answers
+
+-- the file is accepted
+abbrev pub Accepted : List ℕ → Type 0
+Accepted f = firstRefusal (fileChecks f) ≡ none
+
+-- the reading of any list of bytes: the loop, or the first refusal
+unfoldable pub readFile : List ℕ → Answer Loop
+readFile f = settle (fileChecks f) (loopOf f)
+
+-- a part of an accepted file, and of a refused one the empty part
+abbrev pub partIf : Answer Loop → List ℕ → List ℕ
+partIf (answered l) part = part
+partIf (refused r) part = []
+
+-- the body of a section that begins at `start`
+unfoldable pub bodyOf : List ℕ → Section → ℕ → List ℕ
+bodyOf f s start = partIf (readFile f) (take (lengthOf f s) (drop start f))
+
+-- the three section calls
+abbrev pub operBody : List ℕ → List ℕ
+operBody f = bodyOf f oper operAt
+
+-- the body USES
+abbrev pub usesBody : List ℕ → List ℕ
+usesBody f = bodyOf f uses (usesAt f)
+
+-- the body DEPS
+abbrev pub depsBody : List ℕ → List ℕ
+depsBody f = bodyOf f deps (depsAt f)

@@ -1,0 +1,40 @@
+-- What the definitions of the model use of lists, beside the library. Assumes nothing.
+use mathlib.Core.Bool.{Bool, true, false, _||_, cond}
+use mathlib.Core.List.{List, [], _∷_, map, flatMap}
+use mathlib.Core.Option.{Option, none, some}
+use Prim.Native.Nat.{ℕ, zero, suc, _+_, _-_, max}
+
+-- a, a + 1, ..: k numbers
+unfoldable pub upFrom : ℕ → ℕ → List ℕ
+upFrom a zero = []
+upFrom a (suc k) = a ∷ upFrom (suc a) k
+
+-- the pairs (a, b) with a ≤ b < n, in dictionary order
+unfoldable pub pairs : ℕ → List (ℕ × ℕ)
+pairs n = flatMap (λ a. map (λ b. (a, b)) (upFrom a (n - a))) (upFrom 0 n)
+
+module _ {A : Type 0} where
+  -- whether some element passes
+  unfoldable pub any : (A → Bool) → List A → Bool
+  any p [] = false
+  any p (x ∷ xs) = p x || any p xs
+
+  -- the first element that passes
+  unfoldable pub first : (A → Bool) → List A → Option A
+  first p [] = none
+  first p (x ∷ xs) = cond (p x) (some x) (first p xs)
+
+  -- how many elements pass
+  unfoldable pub count : (A → Bool) → List A → ℕ
+  count p [] = 0
+  count p (x ∷ xs) = cond (p x) 1 0 + count p xs
+
+  -- the sum of f over the list
+  unfoldable pub sumOf : (A → ℕ) → List A → ℕ
+  sumOf f [] = 0
+  sumOf f (x ∷ xs) = f x + sumOf f xs
+
+  -- the largest f of the list, 0 where it is empty
+  unfoldable pub maxOf : (A → ℕ) → List A → ℕ
+  maxOf f [] = 0
+  maxOf f (x ∷ xs) = max (f x) (maxOf f xs)
