@@ -78,16 +78,17 @@ at-once slot duration = record { slot = slot; offset = 0; duration = duration }
 -- the loop that A's file describes
 abbrev pub loopA : Loop
 loopA = record {
-    ops =
-        record { latency = 2; uses = at-once 1 1 ∷ [] }
-        ∷ record { latency = 3; uses = at-once 2 2 ∷ [] }
-        ∷ record { latency = 1; uses = at-once 1 1 ∷ [] }
-        ∷ [];
-    deps =
-        record { src = 0; dst = 1; delay = pos 2; distance = 0 }
-        ∷ record { src = 1; dst = 2; delay = pos 3; distance = 0 }
-        ∷ record { src = 1; dst = 1; delay = pos 3; distance = 1 }
-        ∷ [] }
+  ops =
+      record { latency = 2; uses = at-once 1 1 ∷ [] }
+      ∷ record { latency = 3; uses = at-once 2 2 ∷ [] }
+      ∷ record { latency = 1; uses = at-once 1 1 ∷ [] }
+      ∷ [];
+  deps =
+      record { src = 0; dst = 1; delay = pos 2; distance = 0 }
+      ∷ record { src = 1; dst = 2; delay = pos 3; distance = 0 }
+      ∷ record { src = 1; dst = 1; delay = pos 3; distance = 1 }
+      ∷ [];
+}
 
 -- loop B: -3 is the byte 253
 abbrev pub fileB : List ℕ
@@ -156,10 +157,10 @@ starred =
     -- 11
     ∷ called fileA 3 256 (place 0 0 ∷ place 1 2 ∷ []) (answered done ∷ answered done ∷ []) (some 0 ∷ some 2 ∷ none ∷ []) (3 ∷ 0 ∷ 2 ∷ [])
     ∷ called fileA 3 256 (place 0 0 ∷ place 1 2 ∷ remove 0 ∷ []) (answered done ∷ answered done ∷ answered done ∷ [])
-        (none ∷ some 2 ∷ none ∷ []) (2 ∷ 0 ∷ 2 ∷ [])
+    (none ∷ some 2 ∷ none ∷ []) (2 ∷ 0 ∷ 2 ∷ [])
     -- 12
     ∷ called fileA 3 256 (place 0 0 ∷ checkpoint ∷ force 2 3 ∷ []) (answered done ∷ answered (numbered 1) ∷ answered (displaced 1) ∷ [])
-        (none ∷ none ∷ some 3 ∷ []) (1 ∷ 0 ∷ 0 ∷ [])
+    (none ∷ none ∷ some 3 ∷ []) (1 ∷ 0 ∷ 0 ∷ [])
     ∷ called fileA 3 256 (place 0 0 ∷ checkpoint ∷ force 2 3 ∷ rollback 1 ∷ [])
-        (answered done ∷ answered (numbered 1) ∷ answered (displaced 1) ∷ answered done ∷ []) (some 0 ∷ none ∷ none ∷ []) (1 ∷ 0 ∷ 0 ∷ [])
+    (answered done ∷ answered (numbered 1) ∷ answered (displaced 1) ∷ answered done ∷ []) (some 0 ∷ none ∷ none ∷ []) (1 ∷ 0 ∷ 0 ∷ [])
     ∷ []

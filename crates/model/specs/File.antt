@@ -120,10 +120,11 @@ opIn f o = record { latency = byteAt f (opRecord o); uses = map (useIn f) (upFro
 -- dependence e
 abbrev pub depIn : List ℕ → ℕ → Dep
 depIn f e = record {
-    src = byteAt f (depRecord f e);
-    dst = byteAt f (depRecord f e + 1);
-    delay = signedByte (byteAt f (depRecord f e + 2));
-    distance = byteAt f (depRecord f e + 3) }
+  src = byteAt f (depRecord f e);
+  dst = byteAt f (depRecord f e + 1);
+  delay = signedByte (byteAt f (depRecord f e + 2));
+  distance = byteAt f (depRecord f e + 3);
+}
 
 -- the loop
 unfoldable pub loopOf : List ℕ → Loop

@@ -1,0 +1,262 @@
+-- Laws of the model's list functions. Assumes nothing.
+use mathlib.Core.Path.{_≡_, refl, sym, ap, _∙_}
+use mathlib.Core.Bool.{Bool, true, false, not, cond, _||_, or-assoc}
+use mathlib.Core.List.{List, [], _∷_, _++_, map, flatMap, append-nil, append-assoc}
+use mathlib.Core.Logic.{_⊎_, inl, inr}
+use mathlib.Core.Option.{Option, none, some}
+use Prim.Native.Nat.{ℕ, zero, suc, _+_, _-_, _≤_, _<_}
+use native.Mathlib.Nat.{add-zero, zero-add, add-suc, suc-add, le-of-suc-le-suc, not-suc-le-zero, eq-or-lt-of-le, add-assoc}
+use native.Mathlib.Omega.{arith}
+use lib.ListN.{length, getD, length-append}
+use Rattle.model.specs.Lists.{upFrom, pairs, any, first, count, sumOf, maxOf}
+use Rattle.model.specs.Refusals.{Refusal, Check, firstRefusal}
+
+-- ---- tests
+
+pub or-false-left : (a b : Bool) → (a || b) ≡ false → a ≡ false
+or-false-left false b e = refl
+or-false-left true b e = e
+
+pub or-false-right : (a b : Bool) → (a || b) ≡ false → b ≡ false
+or-false-right false b e = e
+or-false-right true b e = let z : _≡_ {A = ℕ} 0 1 = cc in absurd (omega arith)
+
+pub or-both : (a b : Bool) → a ≡ false → b ≡ false → (a || b) ≡ false
+or-both a b p q = rw (p, q)
+
+-- two tests that fail together are one
+pub same-test : (a b : Bool) → (a ≡ false → b ≡ false) → (b ≡ false → a ≡ false) → a ≡ b
+same-test false b f g = sym (f refl)
+same-test true false f g = g refl
+same-test true true f g = refl
+
+-- ---- numbers in a row
+
+pub length-upFrom : (a n : ℕ) → length (upFrom a n) ≡ n
+unfolding upFrom
+length-upFrom a zero = refl
+length-upFrom a (suc n) = ap suc (length-upFrom (suc a) n)
+
+pub getD-upFrom : (a n i d : ℕ) → i < n → getD (upFrom a n) i d ≡ a + i
+unfolding upFrom
+getD-upFrom a zero i d l = absurd (not-suc-le-zero l)
+getD-upFrom a (suc n) zero d l = sym (add-zero a)
+getD-upFrom a (suc n) (suc i) d l = getD-upFrom (suc a) n i d (le-of-suc-le-suc l) ∙ omega arith
+
+pub upFrom-split : (a m n : ℕ) → upFrom a (m + n) ≡ upFrom a m ++ upFrom (a + m) n
+unfolding upFrom
+upFrom-split a zero n = rw (zero-add n, add-zero a)
+upFrom-split a (suc m) n = rw (suc-add m n) (ap (λ (l : List ℕ). a ∷ l) (upFrom-split (suc a) m n ∙ ap (λ (x : ℕ). upFrom (suc a) m ++ upFrom x n) (omega arith)))
+
+pub upFrom-cons : (a n : ℕ) → upFrom a (suc n) ≡ a ∷ upFrom (suc a) n
+unfolding upFrom
+upFrom-cons a n = refl
+
+pub upFrom-snoc : (a n : ℕ) → upFrom a (suc n) ≡ upFrom a n ++ ((a + n) ∷ [])
+unfolding upFrom
+upFrom-snoc a n = let e : suc n ≡ n + 1 = omega arith in ap (upFrom a) e ∙ upFrom-split a n 1
+
+module _ {B : Type 0} where
+  pub length-tabulate : (f : ℕ → B) (a n : ℕ) → length (map f (upFrom a n)) ≡ n
+  unfolding upFrom
+  length-tabulate f a zero = refl
+  length-tabulate f a (suc n) = ap suc (length-tabulate f (suc a) n)
+
+  pub getD-tabulate : (f : ℕ → B) (a n i : ℕ) (d : B) → i < n → getD (map f (upFrom a n)) i d ≡ f (a + i)
+  unfolding upFrom
+  getD-tabulate f a zero i d l = absurd (not-suc-le-zero l)
+  getD-tabulate f a (suc n) zero d l = ap f (sym (add-zero a))
+  getD-tabulate f a (suc n) (suc i) d l = getD-tabulate f (suc a) n i d (le-of-suc-le-suc l) ∙ ap f (omega arith)
+
+-- ---- any
+
+module _ {A : Type 0} where
+  pub any-append : (p : A → Bool) (xs ys : List A) → any p (xs ++ ys) ≡ (any p xs || any p ys)
+  unfolding any
+  any-append p [] ys = refl
+  any-append p (x ∷ xs) ys = ap (λ (b : Bool). p x || b) (any-append p xs ys) ∙ sym (or-assoc (p x) (any p xs) (any p ys))
+
+  -- no element passes, said of each place
+  pub any-at : (p : A → Bool) (xs : List A) (i : ℕ) (d : A) → any p xs ≡ false → i < length xs → p (getD xs i d) ≡ false
+  unfolding any
+  any-at p [] i d e l = absurd (not-suc-le-zero l)
+  any-at p (x ∷ xs) zero d e l = or-false-left (p x) (any p xs) e
+  any-at p (x ∷ xs) (suc i) d e l = any-at p xs i d (or-false-right (p x) (any p xs) e) (le-of-suc-le-suc l)
+
+  pub at-any : (p : A → Bool) (xs : List A) (d : A) → ((i : ℕ) → i < length xs → p (getD xs i d) ≡ false) → any p xs ≡ false
+  unfolding any
+  at-any p [] d h = refl
+  at-any p (x ∷ xs) d h = or-both (p x) (any p xs) (h 0 (omega arith)) (at-any p xs d (λ i l. h (suc i) (omega arith)))
+
+  pub any-map : {B : Type 0} (p : A → Bool) (f : B → A) (xs : List B) → any p (map f xs) ≡ any (λ x. p (f x)) xs
+  unfolding any
+  any-map p f [] = refl
+  any-map p f (x ∷ xs) = ap (λ (b : Bool). p (f x) || b) (any-map p f xs)
+
+  pub any-flatMap : {B : Type 0} (p : A → Bool) (f : B → List A) (xs : List B) → any p (flatMap f xs) ≡ any (λ x. any p (f x)) xs
+  unfolding any flatMap
+  any-flatMap p f [] = refl
+  any-flatMap p f (x ∷ xs) = any-append p (f x) (flatMap f xs) ∙ ap (λ (b : Bool). any p (f x) || b) (any-flatMap p f xs)
+
+  -- the first that passes is there exactly where one does
+  pub first-none : (p : A → Bool) (xs : List A) → any p xs ≡ false → first p xs ≡ none
+  unfolding any first
+  first-none p [] e = refl
+  first-none p (x ∷ xs) e = rw (or-false-left (p x) (any p xs) e) (first-none p xs (or-false-right (p x) (any p xs) e))
+
+  pub none-first : (p : A → Bool) (xs : List A) → first p xs ≡ none → any p xs ≡ false
+  unfolding any first
+  none-first p [] e = refl
+  none-first p (x ∷ xs) e = pick (p x) e (none-first p xs)
+    where
+      pick : (b : Bool) → cond b (some x) (first p xs) ≡ none → (first p xs ≡ none → any p xs ≡ false) → (b || any p xs) ≡ false
+      pick true q ih = let z : _≡_ {A = ℕ} 0 1 = cc in absurd (omega arith)
+      pick false q ih = ih q
+
+-- no number of a row passes
+pub any-row : (p : ℕ → Bool) (a n k : ℕ) → any p (upFrom a n) ≡ false → a ≤ k → k < a + n → p k ≡ false
+any-row p a n k e l m =
+    let j : k - a < n = omega arith in
+    ap p (sym (getD-upFrom a n (k - a) 0 j ∙ omega arith)) ∙ any-at p (upFrom a n) (k - a) 0 e (rw length-upFrom j)
+
+pub row-any : (p : ℕ → Bool) (a n : ℕ) → ((k : ℕ) → a ≤ k → k < a + n → p k ≡ false) → any p (upFrom a n) ≡ false
+row-any p a n h =
+    at-any p (upFrom a n) 0 (λ i l. let j : i < n = rw length-upFrom at l in ap p (getD-upFrom a n i 0 j) ∙ h (a + i) (omega arith) (omega arith))
+
+-- no pair passes
+pub any-pairs : (p : ℕ × ℕ → Bool) (n a b : ℕ) → any p (pairs n) ≡ false → a ≤ b → b < n → p (a, b) ≡ false
+unfolding pairs
+any-pairs p n a b e l m =
+    let outer : any p (map (λ c. (a, c)) (upFrom a (n - a))) ≡ false =
+    any-row (λ c. any p (map (λ d. (c, d)) (upFrom c (n - c)))) 0 n a (sym (any-flatMap p (λ c. map (λ d. (c, d)) (upFrom c (n - c))) (upFrom 0 n)) ∙ e) (omega arith) (omega arith) in
+    any-row (λ c. p (a, c)) a (n - a) b (sym (any-map p (λ c. (a, c)) (upFrom a (n - a))) ∙ outer) l (omega arith)
+
+pub pairs-any : (p : ℕ × ℕ → Bool) (n : ℕ) → ((a b : ℕ) → a ≤ b → b < n → p (a, b) ≡ false) → any p (pairs n) ≡ false
+unfolding pairs
+pairs-any p n h =
+    any-flatMap p (λ c. map (λ d. (c, d)) (upFrom c (n - c))) (upFrom 0 n)
+    ∙ row-any (λ c. any p (map (λ d. (c, d)) (upFrom c (n - c)))) 0 n
+    (λ a l m. any-map p (λ c. (a, c)) (upFrom a (n - a)) ∙ row-any (λ c. p (a, c)) a (n - a) (λ b q r. h a b q (omega arith)))
+
+-- ---- counts and sums
+
+module _ {A : Type 0} where
+  pub count-append : (p : A → Bool) (xs ys : List A) → count p (xs ++ ys) ≡ count p xs + count p ys
+  unfolding count
+  count-append p [] ys = sym (zero-add (count p ys))
+  count-append p (x ∷ xs) ys = rw (count-append p xs ys) (omega arith)
+
+  pub count-flatMap : {B : Type 0} (p : A → Bool) (f : B → List A) (xs : List B) → count p (flatMap f xs) ≡ sumOf (λ x. count p (f x)) xs
+  unfolding count sumOf flatMap
+  count-flatMap p f [] = refl
+  count-flatMap p f (x ∷ xs) = count-append p (f x) (flatMap f xs) ∙ ap (λ (n : ℕ). count p (f x) + n) (count-flatMap p f xs)
+
+  pub sum-append : (f : A → ℕ) (xs ys : List A) → sumOf f (xs ++ ys) ≡ sumOf f xs + sumOf f ys
+  unfolding sumOf
+  sum-append f [] ys = sym (zero-add (sumOf f ys))
+  sum-append f (x ∷ xs) ys = rw (sum-append f xs ys) (omega arith)
+
+  pub sum-add : (f g : A → ℕ) (xs : List A) → sumOf (λ x. f x + g x) xs ≡ sumOf f xs + sumOf g xs
+  unfolding sumOf
+  sum-add f g [] = refl
+  sum-add f g (x ∷ xs) = rw (sum-add f g xs) (omega arith)
+
+  -- nothing passes exactly where the count is 0
+  pub count-none : (p : A → Bool) (xs : List A) → any p xs ≡ false → count p xs ≡ 0
+  unfolding any count
+  count-none p [] e = refl
+  count-none p (x ∷ xs) e = rw (or-false-left (p x) (any p xs) e, count-none p xs (or-false-right (p x) (any p xs) e))
+
+  pub none-count : (p : A → Bool) (xs : List A) → count p xs ≡ 0 → any p xs ≡ false
+  unfolding any count
+  none-count p [] e = refl
+  none-count p (x ∷ xs) e = pick (p x) e (none-count p xs)
+    where
+      pick : (b : Bool) → cond b 1 0 + count p xs ≡ 0 → (count p xs ≡ 0 → any p xs ≡ false) → (b || any p xs) ≡ false
+      pick true q ih = absurd (omega arith)
+      pick false q ih = ih (omega arith)
+
+-- two sums over a row that agree term by term
+pub sum-same : (f g : ℕ → ℕ) (a n : ℕ) → ((k : ℕ) → a ≤ k → k < a + n → f k ≡ g k) → sumOf f (upFrom a n) ≡ sumOf g (upFrom a n)
+unfolding sumOf upFrom
+sum-same f g a zero h = refl
+sum-same f g a (suc n) h = rw (h a (omega arith) (omega arith), sum-same f g (suc a) n (λ k l m. h k (omega arith) (omega arith)))
+
+pub sum-none : (f : ℕ → ℕ) (a n : ℕ) → ((k : ℕ) → a ≤ k → k < a + n → f k ≡ 0) → sumOf f (upFrom a n) ≡ 0
+unfolding sumOf upFrom
+sum-none f a zero h = refl
+sum-none f a (suc n) h = rw (h a (omega arith) (omega arith), sum-none f (suc a) n (λ k l m. h k (omega arith) (omega arith)))
+
+-- a row apart from one of its numbers
+pub row-around : (a n k : ℕ) → a ≤ k → k < a + n → upFrom a n ≡ upFrom a (k - a) ++ (k ∷ upFrom (suc k) (a + n - suc k))
+row-around a n k l m =
+    let e : n ≡ k - a + suc (a + n - suc k) = omega arith in
+    let g : a + (k - a) ≡ k = omega arith in
+    ap (upFrom a) e ∙ upFrom-split a (k - a) (suc (a + n - suc k)) ∙ ap (λ (x : ℕ). upFrom a (k - a) ++ upFrom x (suc (a + n - suc k))) g
+    ∙ ap (λ (r : List ℕ). upFrom a (k - a) ++ r) (upFrom-cons k (a + n - suc k))
+
+-- a sum over a row is one of its terms and the rest, which depends on the other terms alone
+pub sum-around : (f : ℕ → ℕ) (a n k : ℕ) → a ≤ k → k < a + n
+    → sumOf f (upFrom a n) ≡ f k + (sumOf f (upFrom a (k - a)) + sumOf f (upFrom (suc k) (a + n - suc k)))
+unfolding sumOf
+sum-around f a n k l m =
+    ap (sumOf f) (row-around a n k l m) ∙ sum-append f (upFrom a (k - a)) (k ∷ upFrom (suc k) (a + n - suc k)) ∙ omega arith
+
+-- ---- tables of checks
+
+-- the first refusal of two tables, one after the other
+pub refusal-append : (cs ds : List Check) → firstRefusal cs ≡ none → firstRefusal (cs ++ ds) ≡ firstRefusal ds
+unfolding firstRefusal
+refusal-append [] ds e = refl
+refusal-append (c ∷ cs) ds e = pick (c .fails) e (refusal-append cs ds)
+  where
+    pick : (b : Bool) → cond b (some (c .gives)) (firstRefusal cs) ≡ none → (firstRefusal cs ≡ none → firstRefusal (cs ++ ds) ≡ firstRefusal ds)
+        → cond b (some (c .gives)) (firstRefusal (cs ++ ds)) ≡ firstRefusal ds
+    pick true q ih = let z : _≡_ {A = ℕ} 0 1 = cc in absurd (omega arith)
+    pick false q ih = ih q
+
+pub refusal-early : (cs ds : List Check) (r : Refusal) → firstRefusal cs ≡ some r → firstRefusal (cs ++ ds) ≡ some r
+unfolding firstRefusal
+refusal-early [] ds r e = let z : _≡_ {A = ℕ} 0 1 = cc in absurd (omega arith)
+refusal-early (c ∷ cs) ds r e = pick (c .fails) e (refusal-early cs ds r)
+  where
+    pick : (b : Bool) → cond b (some (c .gives)) (firstRefusal cs) ≡ some r → (firstRefusal cs ≡ some r → firstRefusal (cs ++ ds) ≡ some r)
+        → cond b (some (c .gives)) (firstRefusal (cs ++ ds)) ≡ some r
+    pick true q ih = q
+    pick false q ih = ih q
+
+-- what passes two tables passes each
+pub passes-left : (cs ds : List Check) → firstRefusal (cs ++ ds) ≡ none → firstRefusal cs ≡ none
+unfolding firstRefusal
+passes-left [] ds e = refl
+passes-left (c ∷ cs) ds e = pick (c .fails) e (passes-left cs ds)
+  where
+    pick : (b : Bool) → cond b (some (c .gives)) (firstRefusal (cs ++ ds)) ≡ none → (firstRefusal (cs ++ ds) ≡ none → firstRefusal cs ≡ none)
+        → cond b (some (c .gives)) (firstRefusal cs) ≡ none
+    pick true q ih = q
+    pick false q ih = ih q
+
+pub passes-right : (cs ds : List Check) → firstRefusal (cs ++ ds) ≡ none → firstRefusal ds ≡ none
+passes-right cs ds e = sym (refusal-append cs ds (passes-left cs ds e)) ∙ e
+
+-- the first check of a table that is passed, and the others
+pub passes-head : (c : Check) (cs : List Check) → firstRefusal (c ∷ cs) ≡ none → c .fails ≡ false
+unfolding firstRefusal
+passes-head c cs e = pick (c .fails) e
+  where
+    pick : (b : Bool) → cond b (some (c .gives)) (firstRefusal cs) ≡ none → b ≡ false
+    pick true q = let z : _≡_ {A = ℕ} 0 1 = cc in absurd (omega arith)
+    pick false q = refl
+
+pub passes-tail : (c : Check) (cs : List Check) → firstRefusal (c ∷ cs) ≡ none → firstRefusal cs ≡ none
+passes-tail c cs e = passes-right (c ∷ []) cs e
+
+-- what passes the tables of a row passes each of them
+pub passes-each : (t : ℕ → List Check) (a n k : ℕ) → firstRefusal (flatMap t (upFrom a n)) ≡ none → a ≤ k → k < a + n → firstRefusal (t k) ≡ none
+unfolding flatMap upFrom
+passes-each t a zero k e l m = absurd (omega arith)
+passes-each t a (suc n) k e l m = pick (eq-or-lt-of-le l) (passes-each t (suc a) n k (passes-right (t a) (flatMap t (upFrom (suc a) n)) e))
+  where
+    pick : (a ≡ k) ⊎ (a < k) → (suc a ≤ k → k < suc a + n → firstRefusal (t k) ≡ none) → firstRefusal (t k) ≡ none
+    pick (inl q) ih = ap (λ (x : ℕ). firstRefusal (t x)) (sym q) ∙ passes-left (t a) (flatMap t (upFrom (suc a) n)) e
+    pick (inr q) ih = ih q (omega arith)
