@@ -13,32 +13,8 @@ use borrow.Author.Tests.{eq-eqb, ne-eqb, eqb-true, eqb-false, leb-true, le-leb, 
 use Rattle.model.specs.Lists.{upFrom, pairs, any}
 use Rattle.model.specs.Loop.{Op, Dep, Loop, size, opAt, depAt, noDep}
 use Rattle.model.specs.Legality.{Placing, placed, holds, brokenAt, broken, meets, Cell, sameCell, footprint, share, conflict, selfConflict, conflictAt, selfConflictAt, pairConflict, apart, legalAt, legal, placeAt, touches, breaks, meetsCells, fitsAt}
-use Rattle.model.proofs.Lists.{or-false-left, or-false-right, or-both, same-test, any-at, at-any, any-row, row-any, any-pairs, pairs-any}
+use Rattle.model.proofs.Lists.{false-not, and-left, and-right, and-both, same-true, or-false-left, or-false-right, or-both, same-test, any-at, at-any, any-row, row-any, any-pairs, pairs-any}
 use Rattle.model.proofs.Signed.{plus, minus, holds-parts}
-
--- ---- tests
-
--- a test that fails
-false-not : (b : Bool) → b ≡ false → not b ≡ true
-false-not b e = rw e
-
--- both tests succeed
-pub and-left : (a b : Bool) → (a && b) ≡ true → a ≡ true
-and-left true b e = refl
-and-left false b e = e
-
-pub and-right : (a b : Bool) → (a && b) ≡ true → b ≡ true
-and-right true b e = e
-and-right false b e = let z : _≡_ {A = ℕ} 0 1 = cc in absurd (omega arith)
-
-pub and-both : (a b : Bool) → a ≡ true → b ≡ true → (a && b) ≡ true
-and-both a b p q = rw (p, q)
-
--- two tests that succeed together are one
-pub same-true : (a b : Bool) → (a ≡ true → b ≡ true) → (b ≡ true → a ≡ true) → a ≡ b
-same-true true b f g = sym (f refl)
-same-true false true f g = g refl
-same-true false false f g = refl
 
 -- ---- the parts of legality
 

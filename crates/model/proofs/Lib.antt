@@ -1,5 +1,10 @@
 -- The laws of the model that the layers cite, and the theorem of the worked cases.
 pub mod Lists
+pub mod Modular
 pub mod Signed
+pub mod File
 pub mod Legality
+pub mod Table
+pub mod Bounds
+pub mod Answers
 pub mod Cases

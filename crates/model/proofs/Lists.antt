@@ -1,6 +1,6 @@
 -- Laws of the model's list functions. Assumes nothing.
 use mathlib.Core.Path.{_≡_, refl, sym, ap, _∙_}
-use mathlib.Core.Bool.{Bool, true, false, not, cond, _||_, or-assoc}
+use mathlib.Core.Bool.{Bool, true, false, not, cond, _&&_, _||_, or-assoc}
 use mathlib.Core.List.{List, [], _∷_, _++_, map, flatMap, append-nil, append-assoc}
 use mathlib.Core.Logic.{_⊎_, inl, inr}
 use mathlib.Core.Option.{Option, none, some}
@@ -13,6 +13,23 @@ use Rattle.model.specs.Refusals.{Refusal, Check, firstRefusal}
 
 -- ---- tests
 
+-- a test that fails, negated
+pub false-not : (b : Bool) → b ≡ false → not b ≡ true
+false-not b e = rw e
+
+-- both of two tests succeed exactly where each does
+pub and-left : (a b : Bool) → (a && b) ≡ true → a ≡ true
+and-left true b e = refl
+and-left false b e = e
+
+pub and-right : (a b : Bool) → (a && b) ≡ true → b ≡ true
+and-right true b e = e
+and-right false b e = let z : _≡_ {A = ℕ} 0 1 = cc in absurd (omega arith)
+
+pub and-both : (a b : Bool) → a ≡ true → b ≡ true → (a && b) ≡ true
+and-both a b p q = rw (p, q)
+
+-- neither of two tests succeeds exactly where each fails
 pub or-false-left : (a b : Bool) → (a || b) ≡ false → a ≡ false
 or-false-left false b e = refl
 or-false-left true b e = e
@@ -24,7 +41,12 @@ or-false-right true b e = let z : _≡_ {A = ℕ} 0 1 = cc in absurd (omega arit
 pub or-both : (a b : Bool) → a ≡ false → b ≡ false → (a || b) ≡ false
 or-both a b p q = rw (p, q)
 
--- two tests that fail together are one
+-- two tests that succeed together, or fail together, are one
+pub same-true : (a b : Bool) → (a ≡ true → b ≡ true) → (b ≡ true → a ≡ true) → a ≡ b
+same-true true b f g = sym (f refl)
+same-true false true f g = g refl
+same-true false false f g = refl
+
 pub same-test : (a b : Bool) → (a ≡ false → b ≡ false) → (b ≡ false → a ≡ false) → a ≡ b
 same-test false b f g = sym (f refl)
 same-test true false f g = g refl

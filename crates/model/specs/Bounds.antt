@@ -61,6 +61,10 @@ unfoldable pub distanceOf : Loop → List ℕ → ℕ
 distanceOf l [] = 0
 distanceOf l (k ∷ ks) = depAt l k .distance + distanceOf l ks
 
+-- its delay is above ii times its distance: ii is too short for it
+abbrev pub Heavy : Loop → ℕ → List ℕ → Type 0
+Heavy l ii w = pos (ii * distanceOf l w) <ℤ delayOf l w
+
 -- a closed walk of total distance 0 and total delay above 0: no interval is long enough
 pub record Stuck (l : Loop) : Type 0 where
   pub walk : List ℕ

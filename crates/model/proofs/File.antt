@@ -1,0 +1,214 @@
+-- What an accepted file's loop obeys, and how the loop is read off the bytes. Assumes nothing.
+use mathlib.Core.Path.{_≡_, refl, sym, ap, _∙_, subst}
+use mathlib.Core.Bool.{true}
+use mathlib.Core.List.{List, map, flatMap}
+use mathlib.Core.Logic.{_⊎_, inl, inr}
+use mathlib.Core.Option.{none}
+use Prim.Native.Nat.{ℕ, zero, suc, _+_, _*_, _%_, _≤_, _<_}
+use native.Mathlib.Nat.{zero-add, eq-or-lt-of-le}
+use native.Mathlib.Omega.{arith}
+use borrow.Author.Tests.{ltb-false, leb-false, eqb-true, not-false}
+use lib.Dec.{T}
+use lib.IntN.{ℤ}
+use lib.ListN.{length, getD}
+use lib.Signed.{leZ, leZ-yes, _≤ℤ_}
+use Rattle.model.specs.Lists.{upFrom}
+use Rattle.model.specs.Refusals.{Check, firstRefusal}
+use Rattle.model.specs.Loop.{noUse, noOp, noDep, size, opAt, depAt, useAt, UseOk, OpOk, DepOk, LoopOk}
+use Rattle.model.specs.File.{byteAt, Section, oper, uses, deps, lengthOf, recordsOf, endAt, opCount, depCount, opRecord, usesOf, firstUse, useRecord, depRecord, useIn, opIn, depIn, loopOf, lengthChecks, headChecks, entryChecks, contentsChecks, opChecks, slotBelow, useChecks, usesChecks, depChecks, fileChecks, Accepted}
+use Rattle.model.proofs.Lists.{length-tabulate, getD-tabulate, and-left, and-right, or-false-left, or-false-right, passes-left, passes-right, passes-head, passes-tail, passes-each}
+
+-- ---- the loop read off the bytes
+
+-- the loop has the file's number of operations
+pub size-is : (f : List ℕ) → size (loopOf f) ≡ opCount f
+unfolding loopOf
+size-is f = length-tabulate (opIn f) 0 (opCount f)
+
+-- the loop has the file's number of dependences
+pub deps-is : (f : List ℕ) → length (loopOf f .deps) ≡ depCount f
+unfolding loopOf
+deps-is f = length-tabulate (depIn f) 0 (depCount f)
+
+-- operation o of the loop is operation o of the file
+pub op-is : (f : List ℕ) (o : ℕ) → o < opCount f → opAt (loopOf f) o ≡ opIn f o
+unfolding loopOf
+op-is f o l = getD-tabulate (opIn f) 0 (opCount f) o noOp l ∙ ap (opIn f) (zero-add o)
+
+-- dependence e of the loop is dependence e of the file
+pub dep-is : (f : List ℕ) (e : ℕ) → e < depCount f → depAt (loopOf f) e ≡ depIn f e
+unfolding loopOf
+dep-is f e l = getD-tabulate (depIn f) 0 (depCount f) e noDep l ∙ ap (depIn f) (zero-add e)
+
+-- operation o has the number of uses that its record gives
+pub uses-is : (f : List ℕ) (o : ℕ) → length (opIn f o .uses) ≡ usesOf f o
+uses-is f o = length-tabulate (useIn f) (firstUse f o) (usesOf f o)
+
+-- use j of operation o stands j records after the operation's first use
+pub use-is : (f : List ℕ) (o j : ℕ) → j < usesOf f o → useAt (opIn f o) j ≡ useIn f (firstUse f o + j)
+use-is f o j l = getD-tabulate (useIn f) (firstUse f o) (usesOf f o) j noUse l
+
+-- ---- the layout
+
+-- what an accepted file's length, contents and counts obey
+pub record Layout (f : List ℕ) : Type 0 where
+  pub long : 26 ≤ length f
+  pub short : length f ≤ 1690
+  pub version : byteAt f 0 ≡ 1
+  pub oper-some : 1 ≤ opCount f
+  pub oper-few : opCount f ≤ 64
+  pub uses-few : recordsOf f uses ≤ 256
+  pub deps-few : depCount f ≤ 256
+  pub oper-whole : lengthOf f oper ≡ 2 * opCount f
+  pub uses-whole : lengthOf f uses ≡ 2 * firstUse f (opCount f)
+  pub deps-whole : lengthOf f deps ≡ 4 * depCount f
+  pub ends : endAt f ≡ length f
+
+-- from a table that is passed to what its checks say
+ruleset passing = (passes-left, passes-right, passes-head, passes-tail, or-false-left, or-false-right, not-false, eqb-true, ltb-false, leb-false)
+
+-- the tables of an accepted file, each passed
+record Passed (f : List ℕ) : Type 0 where
+  of-length : firstRefusal (lengthChecks f) ≡ none
+  of-head : firstRefusal (headChecks f) ≡ none
+  of-contents : firstRefusal (contentsChecks f) ≡ none
+  of-ops : firstRefusal (flatMap (opChecks f) (upFrom 0 (opCount f))) ≡ none
+  of-uses : firstRefusal (usesChecks f) ≡ none
+  of-deps : firstRefusal (flatMap (depChecks f) (upFrom 0 (depCount f))) ≡ none
+
+-- an accepted file passes each table
+passed : (f : List ℕ) → Accepted f → Passed f
+unfolding fileChecks
+passed f a = search passing
+
+-- the entry of a section in accepted contents: whole records, in the number that the section may have
+record Entry (f : List ℕ) (s : Section) : Type 0 where
+  whole : lengthOf f s % s .width ≡ 0
+  enough : s .least ≤ recordsOf f s
+  few : recordsOf f s ≤ s .most
+
+-- a section's entry that passes its table
+entry : (f : List ℕ) (s : Section) (start : ℕ) → firstRefusal (entryChecks f s start) ≡ none → Entry f s
+unfolding entryChecks
+entry f s start e = search passing
+
+-- the contents: the three entries, and the end of the last body
+record Contents (f : List ℕ) : Type 0 where
+  of-oper : Entry f oper
+  of-uses : Entry f uses
+  of-deps : Entry f deps
+  ends : endAt f ≡ length f
+
+-- contents that pass their table
+contents : (f : List ℕ) → firstRefusal (contentsChecks f) ≡ none → Contents f
+unfolding contentsChecks
+contents f e = search (passing, entry)
+
+-- an accepted file has the layout
+pub layout : (f : List ℕ) → Accepted f → Layout f
+unfolding lengthChecks headChecks usesChecks
+layout f a =
+    let p : Passed f = passed f a in
+    let c : Contents f = contents f (p .of-contents) in
+    search (passing, arith)
+
+-- the uses of an operation stand before those of the operations after it
+pub first-use-le : (f : List ℕ) (o n : ℕ) → o < n → firstUse f o + usesOf f o ≤ firstUse f n
+unfolding firstUse
+first-use-le f o zero l = absurd (omega arith)
+first-use-le f o (suc n) l = pick (eq-or-lt-of-le l) (first-use-le f o n)
+  where
+    pick : (suc o ≡ suc n) ⊎ (suc o < suc n) → (o < n → firstUse f o + usesOf f o ≤ firstUse f n) → firstUse f o + usesOf f o ≤ firstUse f n + usesOf f n
+    pick (inl q) ih = let e : o ≡ n = omega arith in rw e (omega arith)
+    pick (inr q) ih = let h : firstUse f o + usesOf f o ≤ firstUse f n = ih (omega arith) in omega arith
+
+-- the record of an operation lies inside the file
+pub op-inside : (f : List ℕ) (o : ℕ) → Layout f → o < opCount f → opRecord o + 1 < length f
+op-inside f o y l = omega arith
+
+-- the record of a use lies inside the file
+pub use-inside : (f : List ℕ) (o j : ℕ) → Layout f → o < opCount f → j < usesOf f o → useRecord f (firstUse f o + j) + 1 < length f
+use-inside f o j y l m = omega (arith, first-use-le f o (opCount f) l)
+
+-- the record of a dependence lies inside the file
+pub dep-inside : (f : List ℕ) (e : ℕ) → Layout f → e < depCount f → depRecord f e + 3 < length f
+dep-inside f e y l = omega arith
+
+-- ---- the ranges
+
+-- use j of operation o: in range, and above the slot of the operation's use before
+record UseIs (f : List ℕ) (o j : ℕ) : Type 0 where
+  ok : UseOk (useIn f (firstUse f o + j))
+  above : slotBelow f o j < byteAt f (useRecord f (firstUse f o + j))
+
+-- the checks of the uses of operation o
+abbrev usesTable : List ℕ → ℕ → List Check
+usesTable f o = flatMap (λ j. useChecks f o (firstUse f o + j) j) (upFrom 0 (usesOf f o))
+
+-- every use of an accepted file is so
+use-passes : (f : List ℕ) (o j : ℕ) → Passed f → o < opCount f → j < usesOf f o → UseIs f o j
+unfolding usesChecks useChecks
+use-passes f o j p l m =
+    let all : firstRefusal (flatMap (usesTable f) (upFrom 0 (opCount f))) ≡ none = search passing in
+    let own : firstRefusal (usesTable f o) ≡ none = passes-each (usesTable f) 0 (opCount f) o all (omega arith) (omega arith) in
+    let one : firstRefusal (useChecks f o (firstUse f o + j) j) ≡ none =
+    passes-each (λ k. useChecks f o (firstUse f o + k) k) 0 (usesOf f o) j own (omega arith) (omega arith) in
+    let above : slotBelow f o j < byteAt f (useRecord f (firstUse f o + j)) = search passing in
+    let brief : byteAt f (useRecord f (firstUse f o + j) + 1) ≤ 16 = search passing in
+    record { ok = record { slot-low = omega arith; slot-high = search passing; long = search passing; ends = omega arith }; above = above }
+
+-- every operation of an accepted file is in range
+op-passes : (f : List ℕ) (o : ℕ) → Passed f → o < opCount f → OpOk (opIn f o)
+unfolding opChecks
+op-passes f o p l =
+    let e : firstRefusal (opChecks f o) ≡ none = passes-each (opChecks f) 0 (opCount f) o (p .of-ops) (omega arith) (omega arith) in
+    record {
+      quick = search passing;
+      few = rw uses-is (search passing);
+      each = λ j m. let k : j < usesOf f o = rw uses-is at m in rw (use-is f o j k) (use-passes f o j p l k .ok);
+      rising = λ j m. let k : suc j < usesOf f o = rw uses-is at m in let i : j < usesOf f o = omega arith in
+          rw (use-is f o j i, use-is f o (suc j) k) (use-passes f o (suc j) p l k .above);
+    }
+
+-- a test of order that is true
+leZ-true : (a b : ℤ) → leZ a b ≡ true → a ≤ℤ b
+leZ-true a b e = leZ-yes (subst T (sym e) tt)
+
+-- every dependence of an accepted file is in range
+dep-passes : (f : List ℕ) (e : ℕ) → Passed f → e < depCount f → DepOk (opCount f) (depIn f e)
+unfolding depChecks
+dep-passes f e p l =
+    let c : firstRefusal (depChecks f e) ≡ none = passes-each (depChecks f) 0 (depCount f) e (p .of-deps) (omega arith) (omega arith) in
+    search (passing, and-left, and-right, leZ-true)
+
+-- an accepted file's loop is in range
+pub accepted-ok : (f : List ℕ) → Accepted f → LoopOk (loopOf f)
+accepted-ok f a =
+    let p : Passed f = passed f a in
+    let y : Layout f = layout f a in
+    record {
+      some = rw size-is (y .oper-some);
+      few = rw size-is (y .oper-few);
+      op-ok = λ o l. let k : o < opCount f = rw size-is at l in rw (op-is f o k) (op-passes f o p k);
+      sparse = rw deps-is (y .deps-few);
+      dep-ok = λ e l. let k : e < depCount f = rw deps-is at l in rw (size-is f, dep-is f e k) (dep-passes f e p k);
+    }
+
+-- the uses of a row have no offset, nor has what stands past its end
+row-at-once : (f : List ℕ) (a n j : ℕ) → getD (map (useIn f) (upFrom a n)) j noUse .offset ≡ 0
+unfolding upFrom
+row-at-once f a zero j = refl
+row-at-once f a (suc n) zero = refl
+row-at-once f a (suc n) (suc j) = row-at-once f (suc a) n j
+
+-- nor have those of a row of operations
+ops-at-once : (f : List ℕ) (a n o j : ℕ) → useAt (getD (map (opIn f) (upFrom a n)) o noOp) j .offset ≡ 0
+unfolding upFrom
+ops-at-once f a zero o j = refl
+ops-at-once f a (suc n) zero j = row-at-once f (firstUse f a) (usesOf f a) j
+ops-at-once f a (suc n) (suc o) j = ops-at-once f (suc a) n o j
+
+-- version 1 of the file has no offsets: every use of a file's loop begins with its operation
+pub at-once : (f : List ℕ) (o j : ℕ) → useAt (opAt (loopOf f) o) j .offset ≡ 0
+unfolding loopOf
+at-once f o j = ops-at-once f 0 (opCount f) o j
