@@ -39,23 +39,25 @@ module _ (l : Loop) (inside : Inside l) (ii : ℕ) (xs : List ℕ) (all-ops : le
   broken-holds : (e : ℕ) → e < length (l .deps) → broken ii (placed xs) (depAt l e) ≡ not (holds ii (depAt l e) (getD xs (depAt l e .src) 0) (getD xs (depAt l e .dst) 0))
   broken-holds e m =
       ap₂ (brokenAt ii (depAt l e))
-          (placed-in xs (depAt l e .src) (rw all-ops (inside e m .source)))
-          (placed-in xs (depAt l e .dst) (rw all-ops (inside e m .target)))
+      (placed-in xs (depAt l e .src) (rw all-ops (inside e m .source)))
+      (placed-in xs (depAt l e .dst) (rw all-ops (inside e m .target)))
 
   -- the two statements of "all dependences are met" are one
   pub met-each : meets l ii (placed xs) ≡ true → (e : ℕ) → e < length (l .deps) → Met ii xs (depAt l e)
   met-each h e m =
       let d : Dep = depAt l e in
-      record { met = leb-true (getD xs (d .src) 0 + plus (d .delay)) (getD xs (d .dst) 0 + ii * d .distance + minus (d .delay))
-          (sym (holds-parts ii d (getD xs (d .src) 0) (getD xs (d .dst) 0))
-          ∙ not-false (holds ii d (getD xs (d .src) 0) (getD xs (d .dst) 0)) (sym (broken-holds e m) ∙ meets-each l ii (placed xs) h e m)) }
+      record {
+        met = leb-true (getD xs (d .src) 0 + plus (d .delay)) (getD xs (d .dst) 0 + ii * d .distance + minus (d .delay))
+            (sym (holds-parts ii d (getD xs (d .src) 0) (getD xs (d .dst) 0))
+            ∙ not-false (holds ii d (getD xs (d .src) 0) (getD xs (d .dst) 0)) (sym (broken-holds e m) ∙ meets-each l ii (placed xs) h e m));
+      }
 
   pub each-met : ((e : ℕ) → e < length (l .deps) → Met ii xs (depAt l e)) → meets l ii (placed xs) ≡ true
   each-met h =
       each-meets l ii (placed xs) (λ e m.
-          broken-holds e m
-          ∙ ap not (holds-parts ii (depAt l e) (getD xs (depAt l e .src) 0) (getD xs (depAt l e .dst) 0)
-              ∙ le-leb (getD xs (depAt l e .src) 0 + plus (depAt l e .delay)) (getD xs (depAt l e .dst) 0 + ii * depAt l e .distance + minus (depAt l e .delay)) (h e m .met)))
+      broken-holds e m
+      ∙ ap not (holds-parts ii (depAt l e) (getD xs (depAt l e .src) 0) (getD xs (depAt l e .dst) 0)
+      ∙ le-leb (getD xs (depAt l e .src) 0 + plus (depAt l e .delay)) (getD xs (depAt l e .dst) 0 + ii * depAt l e .distance + minus (depAt l e .delay)) (h e m .met)))
 
 -- ---- a longer interval
 
@@ -89,8 +91,13 @@ module _ (l : Loop) (inside : Inside l) (ii : ℕ) (f : Feasible l ii) where
   unfolding distanceOf plusOf minusOf
   along u [] v e = rw e (omega arith)
   along u (k ∷ ks) v g =
-      omega (arith, along (depAt l k .dst) ks v (g .2), met-each l inside ii (f .starts) (f .all-ops) (f .all-met) k (g .0) .met,
-          ap (λ (a : ℕ). getD (f .starts) a 0) (g .1), mul-add ii (depAt l k .distance) (distanceOf l ks))
+      omega (
+        arith,
+        along (depAt l k .dst) ks v (g .2),
+        met-each l inside ii (f .starts) (f .all-ops) (f .all-met) k (g .0) .met,
+        ap (λ (a : ℕ). getD (f .starts) a 0) (g .1),
+        mul-add ii (depAt l k .distance) (distanceOf l ks),
+      )
 
   -- so a closed walk is not heavy at an interval that can be met
   pub light : (w : List ℕ) → Closed l w → ¬ Heavy l ii w

@@ -1,20 +1,185 @@
--- test
+-- The starred worked cases, by one theorem over their list. What computes is proved by computing; a bound is proved by starts that meet the
+-- dependences and, below it, by a closed walk that is too heavy. Assumes nothing.
 use mathlib.Core.Path.{_≡_, refl}
-use mathlib.Core.Bool.{Bool, true, false}
+use mathlib.Core.Bool.{true}
 use mathlib.Core.List.{List, [], _∷_, flatMap}
-use Prim.Native.Nat.{ℕ, zero, suc, _+_}
-use Rattle.model.specs.Refusals.{Answer, answered, refused, firstRefusal}
+use mathlib.Core.Option.{Option, none, some}
+use Prim.Native.Nat.{ℕ, zero, suc, _+_, _*_, _≤_, _<_}
+use native.Mathlib.Omega.{arith}
+use lib.Dec.{lit≤}
+use lib.IntN.{pos}
+use lib.ListN.{length}
+use lib.Signed.{_<ℤ_}
 use Rattle.model.specs.Lists.{upFrom, pairs, any, first, count, sumOf, maxOf}
-use Rattle.model.specs.File.{readFile, signedByte, firstUse, loopOf, lengthChecks, headChecks, standsAt, entryChecks, contentsChecks, opChecks, useChecks, usesChecks, depChecks, fileChecks}
-use Rattle.model.specs.Legality.{holds, meets, cellsIn, footprint, share, conflict, selfConflict, apart, legalAt, fitsAt}
-use Rattle.model.specs.Verifier.{Verdict, legal, breach, clash, verifyFile, proposalChecks, verdict}
-use Rattle.model.specs.Search.{words, answer, probes, stageCount, lastEnd, sweep, requestChecks, roomChecks, searchChecks, intervals, Request}
-use Rattle.model.specs.Cases.{fileA, loopA, fileB, fileB2, fileC, four}
+use Rattle.model.specs.Refusals.{Answer, answered, refused, firstRefusal}
+use Rattle.model.specs.Loop.{Loop, size, depAt}
+use Rattle.model.specs.File.{readFile, signedByte, firstUse, loopOf, lengthChecks, headChecks, standsAt, entryChecks, contentsChecks, opChecks, useChecks, usesChecks, depChecks, fileChecks, Accepted}
+use Rattle.model.specs.Legality.{placed, holds, meets, cellsIn, footprint, share, conflict, selfConflict, apart, legalAt}
+use Rattle.model.specs.Table.{number, rowNumber, tableOf, cellsOf}
+use Rattle.model.specs.Bounds.{totalOn, resourceBound, Feasible, RecurrenceBound, Goes, Closed, delayOf, distanceOf, Heavy, Stuck, Lower, LowerIs, cyclic, within, BoundsIs, by-loop}
+use Rattle.model.specs.Search.{words, answer, probes, stageCount, lastEnd, orderOf, listing, sweep, requestChecks, roomChecks, searchChecks, intervals, Request, Outcome, found, SearchIs, by-sweep}
+use Rattle.model.specs.Session.{Setup, openChecks, openFile, firstBroken, inTheWay, without, maskOf, step, after, replies}
+use Rattle.model.specs.Verifier.{proposalChecks, verdict, verifyFile}
+use Rattle.model.specs.Cases.{Case, searched, Holds, AllHold, Called, foundAt, fileA, loopA, fileB, fileB2, fileC, ring, idle, four, starred}
+use Rattle.model.proofs.Signed.{is-pos, of-lt}
+use Rattle.model.proofs.File.{accepted-ok}
+use Rattle.model.proofs.Bounds.{refutes}
 
-reads-A : readFile fileA ≡ answered loopA
-unfolding readFile fileChecks firstRefusal lengthChecks headChecks standsAt entryChecks contentsChecks opChecks useChecks usesChecks depChecks flatMap upFrom firstUse loopOf signedByte
-reads-A = refl
+-- ---- bounds
 
-two : verifyFile fileA 3 (0 ∷ 2 ∷ 5 ∷ []) ≡ answered legal
-unfolding readFile fileChecks firstRefusal lengthChecks headChecks standsAt entryChecks contentsChecks opChecks useChecks usesChecks depChecks flatMap upFrom firstUse loopOf signedByte verifyFile proposalChecks verdict first holds meets cellsIn footprint share conflict selfConflict apart legalAt any pairs
-two = refl
+-- where starts meet the dependences at b, and a closed walk is too heavy for every interval below b, the bounds are the resource bound and b
+lower-by : (f : List ℕ) (b : ℕ) → 1 ≤ b → b ≤ 4096 → Accepted f → Feasible (loopOf f) b
+    → (w : List ℕ) → Closed (loopOf f) w → ((c : ℕ) → c < b → Heavy (loopOf f) c w)
+    → LowerIs (loopOf f) (answered (record { resource = resourceBound (loopOf f); recurrence = b }))
+lower-by f b low high a m w c h =
+    within b (record { positive = low; feasible = m; least = λ i p q. refutes (loopOf f) (accepted-ok f a .dep-ok) i w c (h i q) }) high refl
+
+-- at an interval of 1 there is nothing below
+lower-one : (f : List ℕ) → Feasible (loopOf f) 1 → LowerIs (loopOf f) (answered (record { resource = resourceBound (loopOf f); recurrence = 1 }))
+lower-one f m = within 1 (record { positive = lit≤ tt; feasible = m; least = λ c p q. absurd (omega arith) }) (lit≤ tt) refl
+
+lower-A : LowerIs (loopOf fileA) (answered (record { resource = 2; recurrence = 3 }))
+unfolding fileChecks firstRefusal lengthChecks headChecks standsAt entryChecks contentsChecks opChecks useChecks usesChecks depChecks flatMap upFrom firstUse loopOf signedByte meets any holds totalOn resourceBound sumOf maxOf delayOf distanceOf
+lower-A =
+    lower-by fileA 3 (lit≤ tt) (lit≤ tt) refl (record { starts = 0 ∷ 2 ∷ 5 ∷ []; all-ops = refl; all-met = refl })
+    (2 ∷ []) (record { some = lit≤ tt; from = 1; goes = (lit≤ tt, refl, refl) }) (λ c h. of-lt (is-pos (c * 1)) (is-pos 3) (omega arith))
+
+case-7-never : BoundsIs (ring 1 0 0 0) (refused (record { number = 8; detail = 0 }))
+unfolding fileChecks firstRefusal lengthChecks headChecks standsAt entryChecks contentsChecks opChecks useChecks usesChecks depChecks flatMap upFrom firstUse loopOf signedByte meets any holds totalOn resourceBound sumOf maxOf delayOf distanceOf
+case-7-never =
+    by-loop refl (cyclic (record {
+      walk = 0 ∷ 1 ∷ [];
+      closed = record { some = lit≤ tt; from = 0; goes = (lit≤ tt, refl, (lit≤ tt, refl, refl)) };
+      still = refl;
+      late = of-lt (is-pos 0) (is-pos 1) (omega arith);
+    }) refl)
+
+case-7-one : BoundsIs (ring 1 0 255 0) (answered (record { resource = 1; recurrence = 1 }))
+unfolding fileChecks firstRefusal lengthChecks headChecks standsAt entryChecks contentsChecks opChecks useChecks usesChecks depChecks flatMap upFrom firstUse loopOf signedByte meets any holds totalOn resourceBound sumOf maxOf delayOf distanceOf
+case-7-one = by-loop refl (lower-one (ring 1 0 255 0) (record { starts = 0 ∷ 1 ∷ []; all-ops = refl; all-met = refl }))
+
+case-8 : BoundsIs idle (answered (record { resource = 1; recurrence = 1 }))
+unfolding fileChecks firstRefusal lengthChecks headChecks standsAt entryChecks contentsChecks opChecks useChecks usesChecks depChecks flatMap upFrom firstUse loopOf signedByte meets any holds totalOn resourceBound sumOf maxOf delayOf distanceOf
+case-8 = by-loop refl (lower-one idle (record { starts = 0 ∷ []; all-ops = refl; all-met = refl }))
+
+-- the walk round the ring
+round : (a b : ℕ) → Closed (loopOf (ring a 1 b 1)) (0 ∷ 1 ∷ [])
+unfolding fileChecks firstRefusal lengthChecks headChecks standsAt entryChecks contentsChecks opChecks useChecks usesChecks depChecks flatMap upFrom firstUse loopOf signedByte meets any holds totalOn resourceBound sumOf maxOf delayOf distanceOf
+round a b = record { some = lit≤ tt; from = 0; goes = (lit≤ tt, refl, (lit≤ tt, refl, refl)) }
+
+case-9-seven : BoundsIs (ring 3 1 4 1) (answered (record { resource = 1; recurrence = 4 }))
+unfolding fileChecks firstRefusal lengthChecks headChecks standsAt entryChecks contentsChecks opChecks useChecks usesChecks depChecks flatMap upFrom firstUse loopOf signedByte meets any holds totalOn resourceBound sumOf maxOf delayOf distanceOf
+case-9-seven =
+    by-loop refl (lower-by (ring 3 1 4 1) 4 (lit≤ tt) (lit≤ tt) refl (record { starts = 0 ∷ 0 ∷ []; all-ops = refl; all-met = refl })
+    (0 ∷ 1 ∷ []) (round 3 4) (λ c h. of-lt (is-pos (c * 2)) (is-pos 7) (omega arith)))
+
+case-9-eight : BoundsIs (ring 4 1 4 1) (answered (record { resource = 1; recurrence = 4 }))
+unfolding fileChecks firstRefusal lengthChecks headChecks standsAt entryChecks contentsChecks opChecks useChecks usesChecks depChecks flatMap upFrom firstUse loopOf signedByte meets any holds totalOn resourceBound sumOf maxOf delayOf distanceOf
+case-9-eight =
+    by-loop refl (lower-by (ring 4 1 4 1) 4 (lit≤ tt) (lit≤ tt) refl (record { starts = 0 ∷ 0 ∷ []; all-ops = refl; all-met = refl })
+    (0 ∷ 1 ∷ []) (round 4 4) (λ c h. of-lt (is-pos (c * 2)) (is-pos 8) (omega arith)))
+
+case-9-nine : BoundsIs (ring 4 1 5 1) (answered (record { resource = 1; recurrence = 5 }))
+unfolding fileChecks firstRefusal lengthChecks headChecks standsAt entryChecks contentsChecks opChecks useChecks usesChecks depChecks flatMap upFrom firstUse loopOf signedByte meets any holds totalOn resourceBound sumOf maxOf delayOf distanceOf
+case-9-nine =
+    by-loop refl (lower-by (ring 4 1 5 1) 5 (lit≤ tt) (lit≤ tt) refl (record { starts = 0 ∷ 0 ∷ []; all-ops = refl; all-met = refl })
+    (0 ∷ 1 ∷ []) (round 4 5) (λ c h. of-lt (is-pos (c * 2)) (is-pos 9) (omega arith)))
+
+-- ---- searches
+
+-- the bounds of loops B2 and C
+lower-B2 : LowerIs (loopOf fileB2) (answered (record { resource = 3; recurrence = 1 }))
+unfolding fileChecks firstRefusal lengthChecks headChecks standsAt entryChecks contentsChecks opChecks useChecks usesChecks depChecks flatMap upFrom firstUse loopOf signedByte meets any holds totalOn resourceBound sumOf maxOf delayOf distanceOf
+lower-B2 = lower-one fileB2 (record { starts = 0 ∷ 3 ∷ 0 ∷ []; all-ops = refl; all-met = refl })
+
+lower-C : LowerIs (loopOf fileC) (answered (record { resource = 1; recurrence = 1 }))
+unfolding fileChecks firstRefusal lengthChecks headChecks standsAt entryChecks contentsChecks opChecks useChecks usesChecks depChecks flatMap upFrom firstUse loopOf signedByte meets any holds totalOn resourceBound sumOf maxOf delayOf distanceOf
+lower-C = lower-one fileC (record { starts = 2 ∷ 0 ∷ []; all-ops = refl; all-met = refl })
+
+search-A : Holds (searched fileA (record { cap = 4096; horizon = 8; budget = 1000000 }) (foundAt 3 2 3 3 10 (0 ∷ 2 ∷ 5 ∷ [])))
+unfolding fileChecks firstRefusal lengthChecks headChecks standsAt entryChecks contentsChecks opChecks useChecks usesChecks depChecks flatMap upFrom firstUse loopOf signedByte meets any holds totalOn resourceBound sumOf maxOf searchChecks requestChecks roomChecks sweep words answer probes first count pairs cellsIn footprint share conflict selfConflict apart legalAt stageCount lastEnd
+search-A = by-sweep (record { resource = 2; recurrence = 3 }) refl lower-A refl
+
+case-4 : Holds (searched fileB2 (record { cap = 4; horizon = 8; budget = 1000000 }) (foundAt 4 3 1 2 78 (0 ∷ 3 ∷ 0 ∷ [])))
+unfolding fileChecks firstRefusal lengthChecks headChecks standsAt entryChecks contentsChecks opChecks useChecks usesChecks depChecks flatMap upFrom firstUse loopOf signedByte meets any holds totalOn resourceBound sumOf maxOf searchChecks requestChecks roomChecks sweep words answer probes first count pairs cellsIn footprint share conflict selfConflict apart legalAt stageCount lastEnd
+case-4 = by-sweep (record { resource = 3; recurrence = 1 }) refl lower-B2 refl
+
+case-6 : Holds (searched fileC (record { cap = 4096; horizon = 8; budget = 1000000 }) (foundAt 1 1 1 4 20 (2 ∷ 0 ∷ [])))
+unfolding fileChecks firstRefusal lengthChecks headChecks standsAt entryChecks contentsChecks opChecks useChecks usesChecks depChecks flatMap upFrom firstUse loopOf signedByte meets any holds totalOn resourceBound sumOf maxOf searchChecks requestChecks roomChecks sweep words answer probes first count pairs cellsIn footprint share conflict selfConflict apart legalAt stageCount lastEnd
+case-6 = by-sweep (record { resource = 1; recurrence = 1 }) refl lower-C refl
+
+-- ---- the theorem
+
+-- every starred case holds
+pub starred-hold : AllHold starred
+unfolding readFile fileChecks firstRefusal lengthChecks headChecks standsAt entryChecks contentsChecks opChecks useChecks usesChecks depChecks flatMap upFrom firstUse loopOf signedByte verifyFile proposalChecks verdict first any count sumOf pairs holds cellsIn footprint share conflict selfConflict openFile openChecks firstBroken inTheWay without maskOf step after replies orderOf listing number rowNumber tableOf cellsOf
+starred-hold = (
+  refl,
+  (
+    search-A,
+    (
+      refl,
+      (
+        by-loop refl lower-A,
+        (
+          refl,
+          (
+            refl,
+            (
+              refl,
+              (
+                refl,
+                (
+                  refl,
+                  (
+                    case-4,
+                    (
+                      case-6,
+                      (
+                        case-7-never,
+                        (
+                          case-7-one,
+                          (
+                            case-8,
+                            (
+                              case-9-seven,
+                              (
+                                case-9-eight,
+                                (
+                                  case-9-nine,
+                                  (
+                                    refl,
+                                    (
+                                      refl,
+                                      (
+                                        record { setup = setupA; opens = refl; answers = refl; starts = refl; table = refl },
+                                        (
+                                          record { setup = setupA; opens = refl; answers = refl; starts = refl; table = refl },
+                                          (
+                                            record { setup = setupA; opens = refl; answers = refl; starts = refl; table = refl },
+                                            (record { setup = setupA; opens = refl; answers = refl; starts = refl; table = refl }, tt),
+                                          ),
+                                        ),
+                                      ),
+                                    ),
+                                  ),
+                                ),
+                              ),
+                            ),
+                          ),
+                        ),
+                      ),
+                    ),
+                  ),
+                ),
+              ),
+            ),
+          ),
+        ),
+      ),
+    ),
+  ),
+)
+  where
+    setupA : Setup
+    setupA = record { loop = loopA; ii = 3; horizon = 256 }

@@ -44,8 +44,9 @@ pub record Legal (l : Loop) (ii : ℕ) (f : Placing) : Type 0 where
 pub legal-parts : (l : Loop) (ii : ℕ) (f : Placing) → legalAt l ii f ≡ true → Legal l ii f
 unfolding legalAt
 legal-parts l ii f h = record {
-    kept = meets-each l ii f (and-left (meets l ii f) (apart l ii f) h);
-    clear = apart-each l ii f (and-right (meets l ii f) (apart l ii f) h) }
+  kept = meets-each l ii f (and-left (meets l ii f) (apart l ii f) h);
+  clear = apart-each l ii f (and-right (meets l ii f) (apart l ii f) h);
+}
 
 pub parts-legal : (l : Loop) (ii : ℕ) (f : Placing) → Legal l ii f → legalAt l ii f ≡ true
 unfolding legalAt
@@ -63,9 +64,10 @@ fits-parts l ii f o t h =
     let d : any (breaks ii f o t) (l .deps) ≡ false = not-true (any (breaks ii f o t) (l .deps)) (and-left (not (any (breaks ii f o t) (l .deps))) _ h) in
     let c : (selfConflict ii (opAt l o) || any (meetsCells l ii f o t) (upFrom 0 (size l))) ≡ false = not-true _ (and-right (not (any (breaks ii f o t) (l .deps))) _ h) in
     record {
-        kept = λ e m. any-at (breaks ii f o t) (l .deps) e noDep d m;
-        self = or-false-left (selfConflict ii (opAt l o)) _ c;
-        clear = λ p m. any-row (meetsCells l ii f o t) 0 (size l) p (or-false-right (selfConflict ii (opAt l o)) _ c) (omega arith) (omega arith) }
+      kept = λ e m. any-at (breaks ii f o t) (l .deps) e noDep d m;
+      self = or-false-left (selfConflict ii (opAt l o)) _ c;
+      clear = λ p m. any-row (meetsCells l ii f o t) 0 (size l) p (or-false-right (selfConflict ii (opAt l o)) _ c) (omega arith) (omega arith);
+    }
 
 pub parts-fits : (l : Loop) (ii : ℕ) (f : Placing) (o t : ℕ) → Fits l ii f o t → fitsAt l ii f o t ≡ true
 unfolding fitsAt
@@ -104,19 +106,20 @@ by-pair false s s′ c c′ p q h = q h
 pub meets-part : (l : Loop) (ii : ℕ) (f g : Placing) → Part f g → meets l ii g ≡ true → meets l ii f ≡ true
 meets-part l ii f g p h =
     each-meets l ii f (λ e m. broken-part ii (depAt l e) (f (depAt l e .src)) (f (depAt l e .dst)) (g (depAt l e .src)) (g (depAt l e .dst))
-        (p .same (depAt l e .src)) (p .same (depAt l e .dst)) (meets-each l ii g h e m))
+    (p .same (depAt l e .src)) (p .same (depAt l e .dst)) (meets-each l ii g h e m))
 
 -- what is legal for all is legal for some
 pub legal-part : (l : Loop) (ii : ℕ) (f g : Placing) → Part f g → legalAt l ii g ≡ true → legalAt l ii f ≡ true
 legal-part l ii f g p h =
     let q : Legal l ii g = legal-parts l ii g h in
     parts-legal l ii f (record {
-        kept = meets-each l ii f (meets-part l ii f g p (each-meets l ii g (q .kept)));
-        clear = λ a b o m.
-            by-pair (eqb a b) (selfConflictAt ii (opAt l a) (g a)) _ (conflictAt ii (opAt l a) (g a) (opAt l b) (g b)) _
-            (self-part ii (opAt l a) (f a) (g a) (p .same a))
-            (conflict-part ii (opAt l a) (opAt l b) (f a) (f b) (g a) (g b) (p .same a) (p .same b))
-            (q .clear a b o m) })
+      kept = meets-each l ii f (meets-part l ii f g p (each-meets l ii g (q .kept)));
+      clear = λ a b o m.
+          by-pair (eqb a b) (selfConflictAt ii (opAt l a) (g a)) _ (conflictAt ii (opAt l a) (g a) (opAt l b) (g b)) _
+          (self-part ii (opAt l a) (f a) (g a) (p .same a))
+          (conflict-part ii (opAt l a) (opAt l b) (f a) (f b) (g a) (g b) (p .same a) (p .same b))
+          (q .clear a b o m);
+    })
 
 -- the starts of a list begin with those of its beginning
 pub placed-part : (xs ys : List ℕ) → Part (placed xs) (placed (xs ++ ys))
@@ -134,12 +137,13 @@ legal-prefix l ii xs ys = legal-part l ii (placed xs) (placed (xs ++ ys)) (place
 -- nothing placed is legal
 pub legal-nothing : (l : Loop) (ii : ℕ) (f : Placing) → ((o : ℕ) → f o ≡ none) → legalAt l ii f ≡ true
 legal-nothing l ii f h = parts-legal l ii f (record {
-    kept = λ e m. ap (λ (x : Option ℕ). brokenAt ii (depAt l e) x (f (depAt l e .dst))) (h (depAt l e .src));
-    clear = λ a b o m.
-        by-pair (eqb a b) false _ false _
-        (λ z. ap (selfConflictAt ii (opAt l a)) (h a))
-        (λ z. ap (λ (x : Option ℕ). conflictAt ii (opAt l a) x (opAt l b) (f b)) (h a))
-        (cond-false (eqb a b)) })
+  kept = λ e m. ap (λ (x : Option ℕ). brokenAt ii (depAt l e) x (f (depAt l e .dst))) (h (depAt l e .src));
+  clear = λ a b o m.
+      by-pair (eqb a b) false _ false _
+      (λ z. ap (selfConflictAt ii (opAt l a)) (h a))
+      (λ z. ap (λ (x : Option ℕ). conflictAt ii (opAt l a) x (opAt l b) (f b)) (h a))
+      (cond-false (eqb a b));
+})
   where
     cond-false : (b : Bool) → cond b false false ≡ false
     cond-false true = refl
@@ -163,8 +167,8 @@ share-flip : (xs ys : List Cell) → share xs ys ≡ false → share ys xs ≡ f
 unfolding share
 share-flip xs ys h =
     at-any (λ c. any (sameCell c) xs) ys noCell (λ j m. at-any (sameCell (getD ys j noCell)) xs noCell (λ i k.
-        same-cell-sym (getD ys j noCell) (getD xs i noCell)
-        ∙ any-at (sameCell (getD xs i noCell)) ys j noCell (any-at (λ c. any (sameCell c) ys) xs i noCell h k) m))
+    same-cell-sym (getD ys j noCell) (getD xs i noCell)
+    ∙ any-at (sameCell (getD xs i noCell)) ys j noCell (any-at (λ c. any (sameCell c) ys) xs i noCell h k) m))
 
 pub share-sym : (xs ys : List Cell) → share xs ys ≡ share ys xs
 share-sym xs ys = same-test (share xs ys) (share ys xs) (share-flip xs ys) (share-flip ys xs)
@@ -202,12 +206,14 @@ module _ (l : Loop) (ii : ℕ) (f : Placing) (o t : ℕ) (inside : o < size l) (
 
   place-fits : Legal l ii (placeAt f o t) → Fits l ii f o t
   place-fits h = record {
-      kept = λ e m. ap (λ (b : Bool). touches o (depAt l e) && b) (h .kept e m) ∙ and-false (touches o (depAt l e));
-      self = self-from (h .clear o o (le-refl o) inside);
-      clear = λ p m. other p m (ℕ-discrete p o) (decLt p o) }
+    kept = λ e m. ap (λ (b : Bool). touches o (depAt l e) && b) (h .kept e m) ∙ and-false (touches o (depAt l e));
+    self = self-from (h .clear o o (le-refl o) inside);
+    clear = λ p m. other p m (ℕ-discrete p o) (decLt p o);
+  }
     where
       self-from : pairConflict l ii (placeAt f o t) (o, o) ≡ false → selfConflict ii (opAt l o) ≡ false
       self-from q = rw (eq-eqb o o refl) at q
+
       other : (p : ℕ) → p < size l → Dec (p ≡ o) → Dec (p < o) → meetsCells l ii f o t p ≡ false
       other p m (yes e) d = rw (eq-eqb p o e)
       other p m (no n) (yes d) =
@@ -224,10 +230,12 @@ module _ (l : Loop) (ii : ℕ) (f : Placing) (o t : ℕ) (inside : o < size l) (
     where
       touched : (e : ℕ) → e < length (l .deps) → touches o (depAt l e) ≡ true → broken ii (placeAt f o t) (depAt l e) ≡ false
       touched e m q = ap (λ (b : Bool). b && broken ii (placeAt f o t) (depAt l e)) (sym q) ∙ k .kept e m
+
       dep : (e : ℕ) → e < length (l .deps) → Dec (depAt l e .src ≡ o) → Dec (depAt l e .dst ≡ o) → broken ii (placeAt f o t) (depAt l e) ≡ false
       dep e m (yes q) d = touched e m (rw (eq-eqb (depAt l e .src) o q))
       dep e m (no n) (yes q) = touched e m (rw (ne-eqb (depAt l e .src) o n, eq-eqb (depAt l e .dst) o q))
       dep e m (no n) (no q) = ap₂ (brokenAt ii (depAt l e)) (place-other f o t (depAt l e .src) n) (place-other f o t (depAt l e .dst) q) ∙ h .kept e m
+
       pair : (a b : ℕ) → a ≤ b → b < size l → Dec (a ≡ b) → Dec (a ≡ o) → Dec (b ≡ o) → pairConflict l ii (placeAt f o t) (a, b) ≡ false
       pair a b q m (yes e) (yes r) d =
           rw (eq-eqb a b e, r, place-same f o t) (k .self)
@@ -259,11 +267,13 @@ placed-snoc xs s = fun-ext (λ o. go xs o (ℕ-discrete o (length xs)) ∙ refl)
     at-end : (xs : List ℕ) → placed (xs ++ (s ∷ [])) (length xs) ≡ some s
     at-end [] = refl
     at-end (x ∷ xs) = at-end xs
+
     elsewhere : (xs : List ℕ) (o : ℕ) → (o ≡ length xs → ⊥) → placed (xs ++ (s ∷ [])) o ≡ placed xs o
     elsewhere [] zero n = absurd (n refl)
     elsewhere [] (suc o) n = refl
     elsewhere (x ∷ xs) zero n = refl
     elsewhere (x ∷ xs) (suc o) n = elsewhere xs o (λ e. n (ap suc e))
+
     go : (xs : List ℕ) (o : ℕ) → Dec (o ≡ length xs) → placed (xs ++ (s ∷ [])) o ≡ placeAt (placed xs) (length xs) s o
     go xs o (yes e) = rw (e, at-end xs, eq-eqb (length xs) (length xs) refl)
     go xs o (no n) = rw (elsewhere xs o n, ne-eqb o (length xs) n)

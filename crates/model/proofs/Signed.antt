@@ -31,8 +31,8 @@ leb-same a b c d f g =
     by-test (leb a b)
     (λ s. le-leb a b (leb→le a b s) ∙ sym (le-leb c d (f (leb→le a b s))))
     (λ s. by-test (leb c d)
-        (λ t. le-leb a b (g (leb→le c d t)) ∙ sym (le-leb c d (leb→le c d t)))
-        (λ t. lt-leb a b (nleb→lt a b s) ∙ sym (lt-leb c d (nleb→lt c d t))))
+    (λ t. le-leb a b (g (leb→le c d t)) ∙ sym (le-leb c d (leb→le c d t)))
+    (λ t. lt-leb a b (nleb→lt a b s) ∙ sym (lt-leb c d (nleb→lt c d t))))
 
 sub′ : (a b : ℕ) → IsT (subℕ a b) a b
 sub′ a b =

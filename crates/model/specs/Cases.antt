@@ -9,19 +9,20 @@ use Rattle.model.specs.Refusals.{Answer, answered, refused}
 use Rattle.model.specs.Loop.{Use, Loop}
 use Rattle.model.specs.File.{readFile}
 use Rattle.model.specs.Bounds.{Lower, BoundsIs}
-use Rattle.model.specs.Search.{Request, Outcome, found, SearchIs, orderOf}
+use Rattle.model.specs.Search.{Request, Outcome, found, SearchIs, Line, listing}
 use Rattle.model.specs.Session.{Setup, Starts, Call, place, force, remove, checkpoint, rollback, Reply, done, displaced, numbered, start, after, replies, openFile, stateTable}
 use Rattle.model.specs.Verifier.{Verdict, legal, breach, clash, verifyFile}
 
 -- ---- what a case claims
 
--- the reading of a file; its bounds; the verdict on a list of starts; what a search answers, with 64 numbers and 4,096 rows lent;
--- and the replies, starts and rows of calls on a session opened with 4,096 rows lent
+-- the reading of a file; its bounds; the verdict on a list of starts; what a search answers, with 64 numbers and 4,096 rows lent; the listing of
+-- starts; and the replies, starts and rows of calls on a session opened with 4,096 rows lent
 pub data Case : Type 0 where
   reads : (f : List ℕ) → Answer Loop → Case
   bounded : (f : List ℕ) → Answer Lower → Case
   judged : (f : List ℕ) (ii : ℕ) (xs : List ℕ) → Answer Verdict → Case
   searched : (f : List ℕ) → Request → Answer Outcome → Case
+  listed : (ii : ℕ) (xs : List ℕ) → List Line → Case
   called : (f : List ℕ) (ii horizon : ℕ) → List Call → List (Answer Reply) → Starts → List ℕ → Case
 
 -- that the calls were made on a session that opened, and what they left
@@ -38,6 +39,7 @@ Holds (reads f a) = readFile f ≡ a
 Holds (bounded f a) = BoundsIs f a
 Holds (judged f ii xs a) = verifyFile f ii xs ≡ a
 Holds (searched f q a) = SearchIs f q 64 4096 a
+Holds (listed ii xs ls) = listing ii xs ≡ ls
 Holds (called f ii horizon cs rs xs rows) = Called f ii horizon cs rs xs rows
 
 -- every case of the list holds
@@ -117,18 +119,25 @@ four = fileWith (1 ∷ 1 ∷ []) (1 ∷ 4 ∷ []) []
 -- ---- the list
 
 -- an answer of bounds
-abbrev bothAre : ℕ → ℕ → Answer Lower
+abbrev pub bothAre : ℕ → ℕ → Answer Lower
 bothAre resource recurrence = answered (record { resource = resource; recurrence = recurrence })
 
 -- an answer of a search
-abbrev foundAt : (ii resource recurrence stages count : ℕ) → List ℕ → Answer Outcome
+abbrev pub foundAt : (ii resource recurrence stages count : ℕ) → List ℕ → Answer Outcome
 foundAt ii resource recurrence stages count xs =
     answered (found (record { ii = ii; bounds = record { resource = resource; recurrence = recurrence }; stages = stages; count = count; starts = xs }))
 
--- cases 1, 2, 3, 4, 6, 7, 8, 9, 10, 11, 12, in this order; before them the reading of loop A
+-- a line of a listing
+abbrev pub line : (start stage cycle order : ℕ) → Line
+line start stage cycle order = record { start-at = start; stage-of = stage; cycle-of = cycle; order-in = order }
+
+-- cases 1, 2, 3, 4, 6, 7, 8, 9, 10, 11, 12, in this order; before them loop A: its reading, its search (at horizon 8 in place of 256: the
+-- probes end at the answer, so the count is the same) and its listing
 abbrev pub starred : List Case
 starred =
     reads fileA (answered loopA)
+    ∷ searched fileA (record { cap = 4096; horizon = 8; budget = 1000000 }) (foundAt 3 2 3 3 10 (0 ∷ 2 ∷ 5 ∷ []))
+    ∷ listed 3 (0 ∷ 2 ∷ 5 ∷ []) (line 0 0 0 0 ∷ line 2 0 2 1 ∷ line 5 1 2 0 ∷ [])
     -- 1
     ∷ bounded fileA (bothAre 2 3)
     -- 2

@@ -71,6 +71,21 @@ earlier ii xs o p =
 unfoldable pub orderOf : ℕ → List ℕ → ℕ → ℕ
 orderOf ii xs o = count (earlier ii xs o) (upFrom 0 (length xs))
 
+-- what a listing says of operation o
+pub record Line : Type 0 where
+  pub start-at : ℕ
+  pub stage-of : ℕ
+  pub cycle-of : ℕ
+  pub order-in : ℕ
+
+-- the line of operation o
+abbrev pub lineOf : ℕ → List ℕ → ℕ → Line
+lineOf ii xs o = record { start-at = startOf xs o; stage-of = stage ii (startOf xs o); cycle-of = cycle ii (startOf xs o); order-in = orderOf ii xs o }
+
+-- the lines of all operations, in number order
+unfoldable pub listing : ℕ → List ℕ → List Line
+listing ii xs = map (lineOf ii xs) (upFrom 0 (length xs))
+
 -- a divided by b, rounded up
 abbrev pub ceilDiv : ℕ → ℕ → ℕ
 ceilDiv a b = (a + (b - 1)) / b
