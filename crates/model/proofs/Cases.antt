@@ -1,6 +1,6 @@
 -- The starred worked cases, by one theorem over their list. What computes is proved by computing; a bound is proved by starts that meet the
 -- dependences and, below it, by a closed walk that is too heavy. Assumes nothing.
-use mathlib.Core.Path.{_≡_, refl}
+use mathlib.Core.Path.{_≡_, refl, sym, ap}
 use mathlib.Core.Bool.{true}
 use mathlib.Core.List.{List, [], _∷_, flatMap}
 use mathlib.Core.Option.{Option, none, some}
@@ -18,12 +18,17 @@ use Rattle.model.specs.Legality.{placed, holds, meets, cellsIn, footprin
 use Rattle.model.specs.Table.{number, rowNumber, tableOf, cellsOf}
 use Rattle.model.specs.Bounds.{totalOn, resourceBound, Feasible, RecurrenceBound, Goes, Closed, delayOf, distanceOf, Heavy, Stuck, Lower, LowerIs, cyclic, within, BoundsIs, by-loop}
 use Rattle.model.specs.Search.{words, answer, probes, stageCount, lastEnd, orderOf, listing, sweep, requestChecks, roomChecks, searchChecks, intervals, Request, Outcome, found, SearchIs, by-sweep}
-use Rattle.model.specs.Session.{Setup, openChecks, openFile, firstBroken, inTheWay, without, maskOf, step, after, replies}
+use Rattle.model.specs.Session.{Setup, Starts, Call, Reply, start, stateTable, openChecks, openFile, firstBroken, inTheWay, without, maskOf, step, after, replies}
 use Rattle.model.specs.Verifier.{proposalChecks, verdict, verifyFile}
 use Rattle.model.specs.Cases.{Case, searched, Holds, AllHold, Called, foundAt, fileA, loopA, fileB, fileB2, fileC, ring, idle, four, starred}
 use Rattle.model.proofs.Signed.{is-pos, of-lt}
 use Rattle.model.proofs.File.{accepted-ok}
 use Rattle.model.proofs.Bounds.{refutes}
+
+-- to unfold this is to unfold every definition that the cases compute with
+computing : Unit {0}
+unfolding readFile fileChecks firstRefusal lengthChecks headChecks standsAt entryChecks contentsChecks opChecks useChecks usesChecks depChecks flatMap upFrom firstUse loopOf signedByte meets any holds totalOn resourceBound sumOf maxOf delayOf distanceOf searchChecks requestChecks roomChecks sweep words answer probes first count pairs cellsIn footprint share conflict selfConflict apart legalAt stageCount lastEnd verifyFile proposalChecks verdict openFile openChecks firstBroken inTheWay without maskOf step after replies orderOf listing number rowNumber tableOf cellsOf
+computing = tt
 
 -- ---- bounds
 
@@ -39,13 +44,13 @@ lower-one : (f : List ℕ) → Feasible (loopOf f) 1 → LowerIs (loopOf f) (ans
 lower-one f m = within 1 (record { positive = lit≤ tt; feasible = m; least = λ c p q. absurd (omega arith) }) (lit≤ tt) refl
 
 lower-A : LowerIs (loopOf fileA) (answered (record { resource = 2; recurrence = 3 }))
-unfolding fileChecks firstRefusal lengthChecks headChecks standsAt entryChecks contentsChecks opChecks useChecks usesChecks depChecks flatMap upFrom firstUse loopOf signedByte meets any holds totalOn resourceBound sumOf maxOf delayOf distanceOf
+unfolding computing
 lower-A =
     lower-by fileA 3 (lit≤ tt) (lit≤ tt) refl (record { starts = 0 ∷ 2 ∷ 5 ∷ []; all-ops = refl; all-met = refl })
     (2 ∷ []) (record { some = lit≤ tt; from = 1; goes = (lit≤ tt, refl, refl) }) (λ c h. of-lt (is-pos (c * 1)) (is-pos 3) (omega arith))
 
 case-7-never : BoundsIs (ring 1 0 0 0) (refused (record { number = 8; detail = 0 }))
-unfolding fileChecks firstRefusal lengthChecks headChecks standsAt entryChecks contentsChecks opChecks useChecks usesChecks depChecks flatMap upFrom firstUse loopOf signedByte meets any holds totalOn resourceBound sumOf maxOf delayOf distanceOf
+unfolding computing
 case-7-never =
     by-loop refl (cyclic (record {
       walk = 0 ∷ 1 ∷ [];
@@ -55,32 +60,32 @@ case-7-never =
     }) refl)
 
 case-7-one : BoundsIs (ring 1 0 255 0) (answered (record { resource = 1; recurrence = 1 }))
-unfolding fileChecks firstRefusal lengthChecks headChecks standsAt entryChecks contentsChecks opChecks useChecks usesChecks depChecks flatMap upFrom firstUse loopOf signedByte meets any holds totalOn resourceBound sumOf maxOf delayOf distanceOf
+unfolding computing
 case-7-one = by-loop refl (lower-one (ring 1 0 255 0) (record { starts = 0 ∷ 1 ∷ []; all-ops = refl; all-met = refl }))
 
 case-8 : BoundsIs idle (answered (record { resource = 1; recurrence = 1 }))
-unfolding fileChecks firstRefusal lengthChecks headChecks standsAt entryChecks contentsChecks opChecks useChecks usesChecks depChecks flatMap upFrom firstUse loopOf signedByte meets any holds totalOn resourceBound sumOf maxOf delayOf distanceOf
+unfolding computing
 case-8 = by-loop refl (lower-one idle (record { starts = 0 ∷ []; all-ops = refl; all-met = refl }))
 
 -- the walk round the ring
 round : (a b : ℕ) → Closed (loopOf (ring a 1 b 1)) (0 ∷ 1 ∷ [])
-unfolding fileChecks firstRefusal lengthChecks headChecks standsAt entryChecks contentsChecks opChecks useChecks usesChecks depChecks flatMap upFrom firstUse loopOf signedByte meets any holds totalOn resourceBound sumOf maxOf delayOf distanceOf
+unfolding computing
 round a b = record { some = lit≤ tt; from = 0; goes = (lit≤ tt, refl, (lit≤ tt, refl, refl)) }
 
 case-9-seven : BoundsIs (ring 3 1 4 1) (answered (record { resource = 1; recurrence = 4 }))
-unfolding fileChecks firstRefusal lengthChecks headChecks standsAt entryChecks contentsChecks opChecks useChecks usesChecks depChecks flatMap upFrom firstUse loopOf signedByte meets any holds totalOn resourceBound sumOf maxOf delayOf distanceOf
+unfolding computing
 case-9-seven =
     by-loop refl (lower-by (ring 3 1 4 1) 4 (lit≤ tt) (lit≤ tt) refl (record { starts = 0 ∷ 0 ∷ []; all-ops = refl; all-met = refl })
     (0 ∷ 1 ∷ []) (round 3 4) (λ c h. of-lt (is-pos (c * 2)) (is-pos 7) (omega arith)))
 
 case-9-eight : BoundsIs (ring 4 1 4 1) (answered (record { resource = 1; recurrence = 4 }))
-unfolding fileChecks firstRefusal lengthChecks headChecks standsAt entryChecks contentsChecks opChecks useChecks usesChecks depChecks flatMap upFrom firstUse loopOf signedByte meets any holds totalOn resourceBound sumOf maxOf delayOf distanceOf
+unfolding computing
 case-9-eight =
     by-loop refl (lower-by (ring 4 1 4 1) 4 (lit≤ tt) (lit≤ tt) refl (record { starts = 0 ∷ 0 ∷ []; all-ops = refl; all-met = refl })
     (0 ∷ 1 ∷ []) (round 4 4) (λ c h. of-lt (is-pos (c * 2)) (is-pos 8) (omega arith)))
 
 case-9-nine : BoundsIs (ring 4 1 5 1) (answered (record { resource = 1; recurrence = 5 }))
-unfolding fileChecks firstRefusal lengthChecks headChecks standsAt entryChecks contentsChecks opChecks useChecks usesChecks depChecks flatMap upFrom firstUse loopOf signedByte meets any holds totalOn resourceBound sumOf maxOf delayOf distanceOf
+unfolding computing
 case-9-nine =
     by-loop refl (lower-by (ring 4 1 5 1) 5 (lit≤ tt) (lit≤ tt) refl (record { starts = 0 ∷ 0 ∷ []; all-ops = refl; all-met = refl })
     (0 ∷ 1 ∷ []) (round 4 5) (λ c h. of-lt (is-pos (c * 2)) (is-pos 9) (omega arith)))
@@ -89,97 +94,62 @@ case-9-nine =
 
 -- the bounds of loops B2 and C
 lower-B2 : LowerIs (loopOf fileB2) (answered (record { resource = 3; recurrence = 1 }))
-unfolding fileChecks firstRefusal lengthChecks headChecks standsAt entryChecks contentsChecks opChecks useChecks usesChecks depChecks flatMap upFrom firstUse loopOf signedByte meets any holds totalOn resourceBound sumOf maxOf delayOf distanceOf
+unfolding computing
 lower-B2 = lower-one fileB2 (record { starts = 0 ∷ 3 ∷ 0 ∷ []; all-ops = refl; all-met = refl })
 
 lower-C : LowerIs (loopOf fileC) (answered (record { resource = 1; recurrence = 1 }))
-unfolding fileChecks firstRefusal lengthChecks headChecks standsAt entryChecks contentsChecks opChecks useChecks usesChecks depChecks flatMap upFrom firstUse loopOf signedByte meets any holds totalOn resourceBound sumOf maxOf delayOf distanceOf
+unfolding computing
 lower-C = lower-one fileC (record { starts = 2 ∷ 0 ∷ []; all-ops = refl; all-met = refl })
 
 search-A : Holds (searched fileA (record { cap = 4096; horizon = 8; budget = 1000000 }) (foundAt 3 2 3 3 10 (0 ∷ 2 ∷ 5 ∷ [])))
-unfolding fileChecks firstRefusal lengthChecks headChecks standsAt entryChecks contentsChecks opChecks useChecks usesChecks depChecks flatMap upFrom firstUse loopOf signedByte meets any holds totalOn resourceBound sumOf maxOf searchChecks requestChecks roomChecks sweep words answer probes first count pairs cellsIn footprint share conflict selfConflict apart legalAt stageCount lastEnd
+unfolding computing
 search-A = by-sweep (record { resource = 2; recurrence = 3 }) refl lower-A refl
 
-case-4 : Holds (searched fileB2 (record { cap = 4; horizon = 8; budget = 1000000 }) (foundAt 4 3 1 2 78 (0 ∷ 3 ∷ 0 ∷ [])))
-unfolding fileChecks firstRefusal lengthChecks headChecks standsAt entryChecks contentsChecks opChecks useChecks usesChecks depChecks flatMap upFrom firstUse loopOf signedByte meets any holds totalOn resourceBound sumOf maxOf searchChecks requestChecks roomChecks sweep words answer probes first count pairs cellsIn footprint share conflict selfConflict apart legalAt stageCount lastEnd
-case-4 = by-sweep (record { resource = 3; recurrence = 1 }) refl lower-B2 refl
+-- the searches of cases 4 and 5, all of loop B2
+search-B2 : {q : Request} {a : Outcome} → firstRefusal (searchChecks fileB2 q 64 4096) ≡ none
+    → sweep (loopOf fileB2) q (record { resource = 3; recurrence = 1 }) 0 (intervals (record { resource = 3; recurrence = 1 }) (q .cap)) ≡ a
+    → SearchIs fileB2 q 64 4096 (answered a)
+search-B2 passes comes = by-sweep (record { resource = 3; recurrence = 1 }) passes lower-B2 (ap answered (sym comes))
 
 case-6 : Holds (searched fileC (record { cap = 4096; horizon = 8; budget = 1000000 }) (foundAt 1 1 1 4 20 (2 ∷ 0 ∷ [])))
-unfolding fileChecks firstRefusal lengthChecks headChecks standsAt entryChecks contentsChecks opChecks useChecks usesChecks depChecks flatMap upFrom firstUse loopOf signedByte meets any holds totalOn resourceBound sumOf maxOf searchChecks requestChecks roomChecks sweep words answer probes first count pairs cellsIn footprint share conflict selfConflict apart legalAt stageCount lastEnd
+unfolding computing
 case-6 = by-sweep (record { resource = 1; recurrence = 1 }) refl lower-C refl
+
+-- ---- calls
+
+-- the session that cases 11 and 12 open
+abbrev setupA : Setup
+setupA = record { loop = loopA; ii = 3; horizon = 256 }
+
+-- calls on it
+calls : {cs : List Call} {rs : List (Answer Reply)} {xs : Starts} {rows : List ℕ}
+    → replies setupA cs (start setupA) ≡ rs → after setupA cs (start setupA) .starts ≡ xs → stateTable setupA (after setupA cs (start setupA)) ≡ rows
+    → Called fileA 3 256 cs rs xs rows
+unfolding computing
+calls answers starts table = record { setup = setupA; opens = refl; answers = answers; starts = starts; table = table }
 
 -- ---- the theorem
 
+-- a proof of the first case and of the others
+infixr 20 _also_
+abbrev _also_ : {A B : Type 0} → A → B → A × B
+a also b = (a, b)
+
 -- every starred case holds
 pub starred-hold : AllHold starred
-unfolding readFile fileChecks firstRefusal lengthChecks headChecks standsAt entryChecks contentsChecks opChecks useChecks usesChecks depChecks flatMap upFrom firstUse loopOf signedByte verifyFile proposalChecks verdict first any count sumOf pairs holds cellsIn footprint share conflict selfConflict openFile openChecks firstBroken inTheWay without maskOf step after replies orderOf listing number rowNumber tableOf cellsOf
-starred-hold = (
-  refl,
-  (
-    search-A,
-    (
-      refl,
-      (
-        by-loop refl lower-A,
-        (
-          refl,
-          (
-            refl,
-            (
-              refl,
-              (
-                refl,
-                (
-                  refl,
-                  (
-                    case-4,
-                    (
-                      case-6,
-                      (
-                        case-7-never,
-                        (
-                          case-7-one,
-                          (
-                            case-8,
-                            (
-                              case-9-seven,
-                              (
-                                case-9-eight,
-                                (
-                                  case-9-nine,
-                                  (
-                                    refl,
-                                    (
-                                      refl,
-                                      (
-                                        record { setup = setupA; opens = refl; answers = refl; starts = refl; table = refl },
-                                        (
-                                          record { setup = setupA; opens = refl; answers = refl; starts = refl; table = refl },
-                                          (
-                                            record { setup = setupA; opens = refl; answers = refl; starts = refl; table = refl },
-                                            (record { setup = setupA; opens = refl; answers = refl; starts = refl; table = refl }, tt),
-                                          ),
-                                        ),
-                                      ),
-                                    ),
-                                  ),
-                                ),
-                              ),
-                            ),
-                          ),
-                        ),
-                      ),
-                    ),
-                  ),
-                ),
-              ),
-            ),
-          ),
-        ),
-      ),
-    ),
-  ),
-)
-  where
-    setupA : Setup
-    setupA = record { loop = loopA; ii = 3; horizon = 256 }
+unfolding computing
+starred-hold =
+    refl also search-A also refl
+    also by-loop refl lower-A
+    also refl also refl
+    also refl also refl also refl
+    also search-B2 refl refl
+    also search-B2 refl refl also search-B2 refl refl also search-B2 refl refl also search-B2 refl refl also search-B2 refl refl
+    also case-6
+    also case-7-never also case-7-one
+    also case-8
+    also case-9-seven also case-9-eight also case-9-nine
+    also refl also refl
+    also calls refl refl refl also calls refl refl refl
+    also calls refl refl refl also calls refl refl refl
+    also tt

@@ -5,6 +5,7 @@ pub mod Signed
 pub mod File
 pub mod Legality
 pub mod Table
+pub mod Conflicts
 pub mod Bounds
 pub mod Answers
 pub mod Cases

@@ -9,7 +9,7 @@ use Rattle.model.specs.Refusals.{Answer, answered, refused}
 use Rattle.model.specs.Loop.{Use, Loop}
 use Rattle.model.specs.File.{readFile}
 use Rattle.model.specs.Bounds.{Lower, BoundsIs}
-use Rattle.model.specs.Search.{Request, Outcome, found, SearchIs, Line, listing}
+use Rattle.model.specs.Search.{Request, Outcome, found, ended, SearchIs, Line, listing}
 use Rattle.model.specs.Session.{Setup, Starts, Call, place, force, remove, checkpoint, rollback, Reply, done, displaced, numbered, start, after, replies, openFile, stateTable}
 use Rattle.model.specs.Verifier.{Verdict, legal, breach, clash, verifyFile}
 
@@ -127,11 +127,15 @@ abbrev pub foundAt : (ii resource recurrence stages count : ℕ) → List ℕ �
 foundAt ii resource recurrence stages count xs =
     answered (found (record { ii = ii; bounds = record { resource = resource; recurrence = recurrence }; stages = stages; count = count; starts = xs }))
 
+-- a search that ends in 10 or 11
+abbrev pub endedAt : (number detail count : ℕ) → Answer Outcome
+endedAt number detail count = answered (ended (record { number = number; detail = detail }) count)
+
 -- a line of a listing
 abbrev pub line : (start stage cycle order : ℕ) → Line
 line start stage cycle order = record { start-at = start; stage-of = stage; cycle-of = cycle; order-in = order }
 
--- cases 1, 2, 3, 4, 6, 7, 8, 9, 10, 11, 12, in this order; before them loop A: its reading, its search (at horizon 8 in place of 256: the
+-- cases 1, 2, 3, 4, 5, 6, 7, 8, 9, 10, 11, 12, in this order; before them loop A: its reading, its search (at horizon 8 in place of 256: the
 -- probes end at the answer, so the count is the same) and its listing
 abbrev pub starred : List Case
 starred =
@@ -149,6 +153,12 @@ starred =
     ∷ judged fileB 4 (0 ∷ 3 ∷ []) (answered legal)
     -- 4; the stage count is 5 divided by 4, rounded up
     ∷ searched fileB2 (record { cap = 4; horizon = 8; budget = 1000000 }) (foundAt 4 3 1 2 78 (0 ∷ 3 ∷ 0 ∷ []))
+    -- 5, not starred: 11 and 10
+    ∷ searched fileB2 (record { cap = 4; horizon = 8; budget = 77 }) (endedAt 11 4 77)
+    ∷ searched fileB2 (record { cap = 4; horizon = 8; budget = 71 }) (endedAt 11 3 71)
+    ∷ searched fileB2 (record { cap = 3; horizon = 8; budget = 1000000 }) (endedAt 10 3 72)
+    ∷ searched fileB2 (record { cap = 2; horizon = 8; budget = 1000000 }) (endedAt 10 2 0)
+    ∷ searched fileB2 (record { cap = 4; horizon = 3; budget = 1000000 }) (endedAt 10 4 24)
     -- 6; the stage count is 4 divided by 1
     ∷ searched fileC (record { cap = 4096; horizon = 8; budget = 1000000 }) (foundAt 1 1 1 4 20 (2 ∷ 0 ∷ []))
     -- 7; -1 is the byte 255
