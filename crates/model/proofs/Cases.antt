@@ -144,6 +144,7 @@ starred-hold =
     also refl also refl
     also refl also refl also refl
     also search-B2 refl refl
+    also search-B2 refl refl also search-B2 refl refl also search-B2 refl refl
     also search-B2 refl refl also search-B2 refl refl also search-B2 refl refl also search-B2 refl refl also search-B2 refl refl
     also case-6
     also case-7-never also case-7-one

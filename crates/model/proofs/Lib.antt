@@ -8,4 +8,5 @@ pub mod Table
 pub mod Conflicts
 pub mod Bounds
 pub mod Answers
+pub mod Session
 pub mod Cases

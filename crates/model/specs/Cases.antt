@@ -153,7 +153,10 @@ starred =
     ∷ judged fileB 4 (0 ∷ 3 ∷ []) (answered legal)
     -- 4; the stage count is 5 divided by 4, rounded up
     ∷ searched fileB2 (record { cap = 4; horizon = 8; budget = 1000000 }) (foundAt 4 3 1 2 78 (0 ∷ 3 ∷ 0 ∷ []))
-    -- 5, not starred: 11 and 10
+    -- 5, not starred: 11 and 10; and the budget spent exactly, at the answer and at the end of an interval
+    ∷ searched fileB2 (record { cap = 4; horizon = 8; budget = 78 }) (foundAt 4 3 1 2 78 (0 ∷ 3 ∷ 0 ∷ []))
+    ∷ searched fileB2 (record { cap = 4; horizon = 8; budget = 72 }) (endedAt 11 4 72)
+    ∷ searched fileB2 (record { cap = 3; horizon = 8; budget = 72 }) (endedAt 10 3 72)
     ∷ searched fileB2 (record { cap = 4; horizon = 8; budget = 77 }) (endedAt 11 4 77)
     ∷ searched fileB2 (record { cap = 4; horizon = 8; budget = 71 }) (endedAt 11 3 71)
     ∷ searched fileB2 (record { cap = 3; horizon = 8; budget = 1000000 }) (endedAt 10 3 72)
