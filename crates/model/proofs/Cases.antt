@@ -20,7 +20,7 @@ use Rattle.model.specs.Bounds.{totalOn, resourceBound, Feasible, Recurre
 use Rattle.model.specs.Search.{words, answer, probes, stageCount, lastEnd, orderOf, listing, sweep, requestChecks, roomChecks, searchChecks, intervals, Request, Outcome, found, SearchIs, by-sweep}
 use Rattle.model.specs.Session.{Setup, Starts, Call, Reply, start, stateTable, openChecks, openFile, firstBroken, inTheWay, without, maskOf, step, after, replies}
 use Rattle.model.specs.Verifier.{proposalChecks, verdict, verifyFile}
-use Rattle.model.specs.Cases.{Case, searched, Holds, AllHold, Called, foundAt, fileA, loopA, fileB, fileB2, fileC, ring, idle, four, starred}
+use Rattle.model.specs.Cases.{Case, searched, Holds, AllHold, no-more, _also_, Called, foundAt, fileA, loopA, fileB, fileB2, fileC, ring, idle, four, starred}
 use Rattle.model.proofs.Signed.{is-pos, of-lt}
 use Rattle.model.proofs.File.{accepted-ok}
 use Rattle.model.proofs.Bounds.{refutes}
@@ -130,11 +130,6 @@ calls answers starts table = record { setup = setupA; opens = refl; answers = an
 
 -- ---- the theorem
 
--- a proof of the first case and of the others
-infixr 20 _also_
-abbrev _also_ : {A B : Type 0} → A → B → A × B
-a also b = (a, b)
-
 -- every starred case holds
 pub starred-hold : AllHold starred
 unfolding computing
@@ -153,4 +148,4 @@ starred-hold =
     also refl also refl
     also calls refl refl refl also calls refl refl refl
     also calls refl refl refl also calls refl refl refl
-    also tt
+    also no-more
