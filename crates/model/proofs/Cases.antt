@@ -13,7 +13,7 @@ use lib.Signed.{_<ℤ_}
 use Rattle.model.specs.Lists.{upFrom, pairs, any, first, count, sumOf, maxOf}
 use Rattle.model.specs.Refusals.{Answer, answered, refused, firstRefusal}
 use Rattle.model.specs.Loop.{Loop, size, depAt}
-use Rattle.model.specs.File.{readFile, signedByte, firstUse, loopOf, lengthChecks, headChecks, standsAt, entryChecks, contentsChecks, opChecks, useChecks, usesChecks, depChecks, fileChecks, Accepted}
+use Rattle.model.specs.File.{readFile, signedByte, firstUse, loopOf, lengthChecks, headChecks, standsAt, entryChecks, contentsChecks, opChecks, useChecks, opUseChecks, usesChecks, depChecks, fileChecks, Accepted}
 use Rattle.model.specs.Legality.{placed, holds, meets, cellsIn, footprint, share, conflict, selfConflict, apart, legalAt}
 use Rattle.model.specs.Table.{number, rowNumber, tableOf, cellsOf}
 use Rattle.model.specs.Bounds.{totalOn, resourceBound, Feasible, RecurrenceBound, Goes, Closed, delayOf, distanceOf, Heavy, Stuck, Lower, LowerIs, cyclic, within, BoundsIs, by-loop}
@@ -27,7 +27,7 @@ use Rattle.model.proofs.Bounds.{refutes}
 
 -- to unfold this is to unfold every definition that the cases compute with
 computing : Unit {0}
-unfolding readFile fileChecks firstRefusal lengthChecks headChecks standsAt entryChecks contentsChecks opChecks useChecks usesChecks depChecks flatMap upFrom firstUse loopOf signedByte meets any holds totalOn resourceBound sumOf maxOf delayOf distanceOf searchChecks requestChecks roomChecks sweep words answer probes first count pairs cellsIn footprint share conflict selfConflict apart legalAt stageCount lastEnd verifyFile proposalChecks verdict openFile openChecks firstBroken inTheWay without maskOf step after replies orderOf listing number rowNumber tableOf cellsOf
+unfolding readFile fileChecks firstRefusal lengthChecks headChecks standsAt entryChecks contentsChecks opChecks useChecks opUseChecks usesChecks depChecks flatMap upFrom firstUse loopOf signedByte meets any holds totalOn resourceBound sumOf maxOf delayOf distanceOf searchChecks requestChecks roomChecks sweep words answer probes first count pairs cellsIn footprint share conflict selfConflict apart legalAt stageCount lastEnd verifyFile proposalChecks verdict openFile openChecks firstBroken inTheWay without maskOf step after replies orderOf listing number rowNumber tableOf cellsOf
 computing = tt
 
 -- ---- bounds

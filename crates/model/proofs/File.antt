@@ -1,22 +1,23 @@
 -- What an accepted file's loop obeys, and how the loop is read off the bytes. Assumes nothing.
-use mathlib.Core.Path.{_≡_, refl, sym, ap, _∙_, subst}
+use mathlib.Core.Path.{_≡_, refl, sym, ap, ap₂, _∙_, subst}
 use mathlib.Core.Bool.{true}
-use mathlib.Core.List.{List, map, flatMap}
+use mathlib.Core.List.{List, [], _∷_, _++_, map, flatMap, append-nil, append-assoc}
 use mathlib.Core.Logic.{_⊎_, inl, inr}
 use mathlib.Core.Option.{none}
 use Prim.Native.Nat.{ℕ, zero, suc, _+_, _*_, _%_, _≤_, _<_}
-use native.Mathlib.Nat.{zero-add, eq-or-lt-of-le}
+use native.Mathlib.Nat.{zero-add, add-zero, eq-or-lt-of-le}
 use native.Mathlib.Omega.{arith}
 use borrow.Author.Tests.{ltb-false, leb-false, eqb-true, not-false}
 use lib.Dec.{T}
 use lib.IntN.{ℤ}
-use lib.ListN.{length, getD}
+use lib.ListN.{length, getD, take}
+use lib.Seq.{take-suc}
 use lib.Signed.{leZ, leZ-yes, _≤ℤ_}
-use Rattle.model.specs.Lists.{upFrom}
+use Rattle.model.specs.Lists.{upFrom, sumOf}
 use Rattle.model.specs.Refusals.{Check, firstRefusal}
-use Rattle.model.specs.Loop.{noUse, noOp, noDep, size, opAt, depAt, useAt, UseOk, OpOk, DepOk, LoopOk}
-use Rattle.model.specs.File.{byteAt, Section, oper, uses, deps, lengthOf, recordsOf, endAt, opCount, depCount, opRecord, usesOf, firstUse, useRecord, depRecord, useIn, opIn, depIn, loopOf, lengthChecks, headChecks, entryChecks, contentsChecks, opChecks, slotBelow, useChecks, usesChecks, depChecks, fileChecks, Accepted}
-use Rattle.model.proofs.Lists.{length-tabulate, getD-tabulate, and-left, and-right, or-false-left, or-false-right, passes-left, passes-right, passes-head, passes-tail, passes-each}
+use Rattle.model.specs.Loop.{Use, Op, noUse, noOp, allUses, firstUseOf, noDep, size, opAt, depAt, useAt, UseOk, OpOk, DepOk, LoopOk}
+use Rattle.model.specs.File.{byteAt, Section, oper, uses, deps, lengthOf, recordsOf, endAt, opCount, depCount, opRecord, usesOf, firstUse, useRecord, depRecord, useIn, opIn, depIn, loopOf, lengthChecks, headChecks, entryChecks, contentsChecks, opChecks, slotBelow, useChecks, opUseChecks, usesChecks, depChecks, fileChecks, Accepted}
+use Rattle.model.proofs.Lists.{upFrom-snoc, upFrom-split, map-append, sum-append, length-tabulate, getD-tabulate, and-left, and-right, or-false-left, or-false-right, passes-left, passes-right, passes-head, passes-tail, passes-each}
 
 -- ---- the loop read off the bytes
 
@@ -48,6 +49,36 @@ uses-is f o = length-tabulate (useIn f) (firstUse f o) (usesOf f o)
 pub use-is : (f : List ℕ) (o j : ℕ) → j < usesOf f o → useAt (opIn f o) j ≡ useIn f (firstUse f o + j)
 use-is f o j l = getD-tabulate (useIn f) (firstUse f o) (usesOf f o) j noUse l
 
+-- the uses of the first n operations are the first uses of the file, and end where those of operation n begin
+uses-row : (f : List ℕ) (n : ℕ) → flatMap (λ p. p .uses) (map (opIn f) (upFrom 0 n)) ≡ map (useIn f) (upFrom 0 (firstUse f n))
+unfolding flatMap upFrom firstUse
+uses-row f zero = refl
+uses-row f (suc n) =
+    ap (λ (r : List ℕ). flatMap (λ p. p .uses) (map (opIn f) r)) (upFrom-snoc 0 n ∙ ap (λ (k : ℕ). upFrom 0 n ++ (k ∷ [])) (zero-add n))
+    ∙ flat-snoc (upFrom 0 n)
+    ∙ ap (λ (r : List Use). r ++ map (useIn f) (upFrom (firstUse f n) (usesOf f n))) (uses-row f n)
+    ∙ sym (ap (map (useIn f)) (upFrom-split 0 (firstUse f n) (usesOf f n) ∙ ap (λ (k : ℕ). upFrom 0 (firstUse f n) ++ upFrom k (usesOf f n)) (zero-add (firstUse f n)))
+    ∙ map-append (useIn f) (upFrom 0 (firstUse f n)) (upFrom (firstUse f n) (usesOf f n)))
+  where
+    flat-snoc : (r : List ℕ) → flatMap (λ p. p .uses) (map (opIn f) (r ++ (n ∷ []))) ≡ flatMap (λ p. p .uses) (map (opIn f) r) ++ map (useIn f) (upFrom (firstUse f n) (usesOf f n))
+    flat-snoc [] = append-nil (map (useIn f) (upFrom (firstUse f n) (usesOf f n)))
+    flat-snoc (k ∷ r) = ap (λ (t : List Use). opIn f k .uses ++ t) (flat-snoc r) ∙ sym (append-assoc (opIn f k .uses) _ _)
+
+-- the uses of the loop are those of the file, one after the other
+pub all-uses-is : (f : List ℕ) → allUses (loopOf f) ≡ map (useIn f) (upFrom 0 (firstUse f (opCount f)))
+unfolding allUses loopOf
+all-uses-is f = uses-row f (opCount f)
+
+-- operation o's first use among all uses is where the file counts it
+pub first-use-is : (f : List ℕ) (o : ℕ) → o ≤ opCount f → firstUseOf (loopOf f) o ≡ firstUse f o
+unfolding firstUseOf firstUse sumOf
+first-use-is f zero h = refl
+first-use-is f (suc o) h =
+    let l : o < size (loopOf f) = rw size-is h in
+    ap (sumOf (λ p. length (p .uses))) (take-suc (loopOf f .ops) o noOp l)
+    ∙ sum-append (λ p. length (p .uses)) (take o (loopOf f .ops)) (opAt (loopOf f) o ∷ [])
+    ∙ ap₂ _+_ (first-use-is f o (omega arith)) (add-zero (length (opAt (loopOf f) o .uses)) ∙ ap (λ (p : Op). length (p .uses)) (op-is f o h) ∙ uses-is f o)
+
 -- ---- the layout
 
 -- what an accepted file's length, contents and counts obey
@@ -72,9 +103,9 @@ record Passed (f : List ℕ) : Type 0 where
   of-length : firstRefusal (lengthChecks f) ≡ none
   of-head : firstRefusal (headChecks f) ≡ none
   of-contents : firstRefusal (contentsChecks f) ≡ none
-  of-ops : firstRefusal (flatMap (opChecks f) (upFrom 0 (opCount f))) ≡ none
+  of-ops : firstRefusal (flatMap (λ o. opChecks f (opRecord o)) (upFrom 0 (opCount f))) ≡ none
   of-uses : firstRefusal (usesChecks f) ≡ none
-  of-deps : firstRefusal (flatMap (depChecks f) (upFrom 0 (depCount f))) ≡ none
+  of-deps : firstRefusal (flatMap (λ e. depChecks f (opCount f) (depRecord f e)) (upFrom 0 (depCount f))) ≡ none
 
 -- an accepted file passes each table
 passed : (f : List ℕ) → Accepted f → Passed f
@@ -139,35 +170,36 @@ dep-inside f e y l = omega arith
 -- use j of operation o: in range, and above the slot of the operation's use before
 record UseIs (f : List ℕ) (o j : ℕ) : Type 0 where
   ok : UseOk (useIn f (firstUse f o + j))
-  above : slotBelow f o j < byteAt f (useRecord f (firstUse f o + j))
-
--- the checks of the uses of operation o
-abbrev usesTable : List ℕ → ℕ → List Check
-usesTable f o = flatMap (λ j. useChecks f o (firstUse f o + j) j) (upFrom 0 (usesOf f o))
+  above : slotBelow f (useRecord f (firstUse f o)) j < byteAt f (useRecord f (firstUse f o + j))
 
 -- every use of an accepted file is so
 use-passes : (f : List ℕ) (o j : ℕ) → Passed f → o < opCount f → j < usesOf f o → UseIs f o j
-unfolding usesChecks useChecks
+unfolding usesChecks opUseChecks useChecks
 use-passes f o j p l m =
-    let all : firstRefusal (flatMap (usesTable f) (upFrom 0 (opCount f))) ≡ none = search passing in
-    let own : firstRefusal (usesTable f o) ≡ none = passes-each (usesTable f) 0 (opCount f) o all (omega arith) (omega arith) in
-    let one : firstRefusal (useChecks f o (firstUse f o + j) j) ≡ none =
-    passes-each (λ k. useChecks f o (firstUse f o + k) k) 0 (usesOf f o) j own (omega arith) (omega arith) in
-    let above : slotBelow f o j < byteAt f (useRecord f (firstUse f o + j)) = search passing in
-    let brief : byteAt f (useRecord f (firstUse f o + j) + 1) ≤ 16 = search passing in
+    let first : ℕ = useRecord f (firstUse f o) in
+    let at : ℕ = useRecord f (firstUse f o + j) in
+    let all : firstRefusal (flatMap (λ q. opUseChecks f (useRecord f (firstUse f q)) (usesOf f q)) (upFrom 0 (opCount f))) ≡ none = search passing in
+    let own : firstRefusal (opUseChecks f first (usesOf f o)) ≡ none =
+    passes-each (λ q. opUseChecks f (useRecord f (firstUse f q)) (usesOf f q)) 0 (opCount f) o all (omega arith) (omega arith) in
+    let there : first + 2 * j ≡ at = omega arith in
+    let one : firstRefusal (useChecks f (slotBelow f first j) at) ≡ none =
+    rw there at (passes-each (λ k. useChecks f (slotBelow f first k) (first + 2 * k)) 0 (usesOf f o) j own (omega arith) (omega arith)) in
+    let above : slotBelow f first j < byteAt f at = search passing in
+    let brief : byteAt f (at + 1) ≤ 16 = search passing in
     record { ok = record { slot-low = omega arith; slot-high = search passing; long = search passing; ends = omega arith }; above = above }
 
 -- every operation of an accepted file is in range
 op-passes : (f : List ℕ) (o : ℕ) → Passed f → o < opCount f → OpOk (opIn f o)
 unfolding opChecks
 op-passes f o p l =
-    let e : firstRefusal (opChecks f o) ≡ none = passes-each (opChecks f) 0 (opCount f) o (p .of-ops) (omega arith) (omega arith) in
+    let e : firstRefusal (opChecks f (opRecord o)) ≡ none = passes-each (λ q. opChecks f (opRecord q)) 0 (opCount f) o (p .of-ops) (omega arith) (omega arith) in
     record {
       quick = search passing;
       few = rw uses-is (search passing);
       each = λ j m. let k : j < usesOf f o = rw uses-is at m in rw (use-is f o j k) (use-passes f o j p l k .ok);
       rising = λ j m. let k : suc j < usesOf f o = rw uses-is at m in let i : j < usesOf f o = omega arith in
-          rw (use-is f o j i, use-is f o (suc j) k) (use-passes f o (suc j) p l k .above);
+          let there : useRecord f (firstUse f o) + 2 * j ≡ useRecord f (firstUse f o + j) = omega arith in
+          rw (use-is f o j i, use-is f o (suc j) k) (rw there at (use-passes f o (suc j) p l k .above));
     }
 
 -- a test of order that is true
@@ -178,7 +210,7 @@ leZ-true a b e = leZ-yes (subst T (sym e) tt)
 dep-passes : (f : List ℕ) (e : ℕ) → Passed f → e < depCount f → DepOk (opCount f) (depIn f e)
 unfolding depChecks
 dep-passes f e p l =
-    let c : firstRefusal (depChecks f e) ≡ none = passes-each (depChecks f) 0 (depCount f) e (p .of-deps) (omega arith) (omega arith) in
+    let c : firstRefusal (depChecks f (opCount f) (depRecord f e)) ≡ none = passes-each (λ d. depChecks f (opCount f) (depRecord f d)) 0 (depCount f) e (p .of-deps) (omega arith) (omega arith) in
     search (passing, and-left, and-right, leZ-true)
 
 -- an accepted file's loop is in range

@@ -91,6 +91,10 @@ module _ {B : Type 0} where
   getD-tabulate f a (suc n) zero d l = ap f (sym (add-zero a))
   getD-tabulate f a (suc n) (suc i) d l = getD-tabulate f (suc a) n i d (le-of-suc-le-suc l) ∙ ap f (omega arith)
 
+  pub map-append : {A : Type 0} (f : A → B) (xs ys : List A) → map f (xs ++ ys) ≡ map f xs ++ map f ys
+  map-append f [] ys = refl
+  map-append f (x ∷ xs) ys = ap (λ (r : List B). f x ∷ r) (map-append f xs ys)
+
 -- ---- any
 
 module _ {A : Type 0} where

@@ -160,47 +160,48 @@ contentsChecks f =
     entryChecks f oper operAt ++ entryChecks f uses (usesAt f) ++ entryChecks f deps (depsAt f)
     ++ (check (not (eqb (endAt f) (length f))) 3 (deps .entry) ∷ [])
 
--- 4: latency 0 to 64, and number of uses 0 to 4, of operation o
+-- 4: latency 0 to 64, and number of uses 0 to 4, of the operation whose record stands at `at`
 unfoldable pub opChecks : List ℕ → ℕ → List Check
-opChecks f o =
-    check (ltb 64 (byteAt f (opRecord o))) 4 (opRecord o)
-    ∷ check (ltb 4 (byteAt f (opRecord o + 1))) 4 (opRecord o + 1)
+opChecks f at = check (ltb 64 (byteAt f at)) 4 at ∷ check (ltb 4 (byteAt f (at + 1))) 4 (at + 1) ∷ []
+
+-- 5: slot 1 to 24 and above `below`, and duration 1 to 16, of the use whose record stands at `at`
+unfoldable pub useChecks : List ℕ → ℕ → ℕ → List Check
+useChecks f below at =
+    check (leb (byteAt f at) below || ltb 24 (byteAt f at)) 5 at
+    ∷ check (ltb (byteAt f (at + 1)) 1 || ltb 16 (byteAt f (at + 1))) 5 (at + 1)
     ∷ []
 
--- the slot that use j of operation o has to be above: that of the operation's use before, 0 where there is none
+-- the slot that use j of an operation has to be above, where the first stands at `at`: that of the use before, 0 where there is none
 abbrev pub slotBelow : List ℕ → ℕ → ℕ → ℕ
-slotBelow f o zero = 0
-slotBelow f o (suc j) = byteAt f (useRecord f (firstUse f o + j))
+slotBelow f at zero = 0
+slotBelow f at (suc j) = byteAt f (at + 2 * j)
 
--- 5: use j of operation o, which is use u of all: slot 1 to 24 and rising, duration 1 to 16
-unfoldable pub useChecks : List ℕ → ℕ → ℕ → ℕ → List Check
-useChecks f o u j =
-    check (leb (byteAt f (useRecord f u)) (slotBelow f o j) || ltb 24 (byteAt f (useRecord f u))) 5 (useRecord f u)
-    ∷ check (ltb (byteAt f (useRecord f u + 1)) 1 || ltb 16 (byteAt f (useRecord f u + 1))) 5 (useRecord f u + 1)
-    ∷ []
+-- 5: the uses of an operation, `n` of them from `at` on
+unfoldable pub opUseChecks : List ℕ → ℕ → ℕ → List Check
+opUseChecks f at n = flatMap (λ j. useChecks f (slotBelow f at j) (at + 2 * j)) (upFrom 0 n)
 
 -- 5: the length of the body, at its start; then operation by operation, use by use
 unfoldable pub usesChecks : List ℕ → List Check
 usesChecks f =
     check (not (eqb (lengthOf f uses) (uses .width * firstUse f (opCount f)))) 5 (usesAt f)
-    ∷ flatMap (λ o. flatMap (λ j. useChecks f o (firstUse f o + j) j) (upFrom 0 (usesOf f o))) (upFrom 0 (opCount f))
+    ∷ flatMap (λ o. opUseChecks f (useRecord f (firstUse f o)) (usesOf f o)) (upFrom 0 (opCount f))
 
--- 6: from, to, delay -64 to 64 and distance 0 to 15 of dependence e
-unfoldable pub depChecks : List ℕ → ℕ → List Check
-depChecks f e =
-    check (leb (opCount f) (byteAt f (depRecord f e))) 6 (depRecord f e)
-    ∷ check (leb (opCount f) (byteAt f (depRecord f e + 1))) 6 (depRecord f e + 1)
-    ∷ check (not (leZ (negsuc 63) (signedByte (byteAt f (depRecord f e + 2))) && leZ (signedByte (byteAt f (depRecord f e + 2))) (pos 64))) 6 (depRecord f e + 2)
-    ∷ check (ltb 15 (byteAt f (depRecord f e + 3))) 6 (depRecord f e + 3)
+-- 6: from and to below n, delay -64 to 64 and distance 0 to 15 of the dependence whose record stands at `at`
+unfoldable pub depChecks : List ℕ → ℕ → ℕ → List Check
+depChecks f n at =
+    check (leb n (byteAt f at)) 6 at
+    ∷ check (leb n (byteAt f (at + 1))) 6 (at + 1)
+    ∷ check (not (leZ (negsuc 63) (signedByte (byteAt f (at + 2))) && leZ (signedByte (byteAt f (at + 2))) (pos 64))) 6 (at + 2)
+    ∷ check (ltb 15 (byteAt f (at + 3))) 6 (at + 3)
     ∷ []
 
 -- 1 to 6
 unfoldable pub fileChecks : List ℕ → List Check
 fileChecks f =
     lengthChecks f ++ headChecks f ++ contentsChecks f
-    ++ flatMap (opChecks f) (upFrom 0 (opCount f))
+    ++ flatMap (λ o. opChecks f (opRecord o)) (upFrom 0 (opCount f))
     ++ usesChecks f
-    ++ flatMap (depChecks f) (upFrom 0 (depCount f))
+    ++ flatMap (λ e. depChecks f (opCount f) (depRecord f e)) (upFrom 0 (depCount f))
 
 -- ---- what the reader answers
 

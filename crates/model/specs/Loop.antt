@@ -1,10 +1,11 @@
 -- A loop: operations with their uses of slots, and dependences. Assumes nothing.
 use mathlib.Core.Path.{_≡_}
-use mathlib.Core.List.{List, [], _∷_}
+use mathlib.Core.List.{List, [], _∷_, flatMap}
 use Prim.Native.Nat.{ℕ, suc, _+_, _≤_, _<_}
 use lib.IntN.{ℤ, pos, negsuc}
-use lib.ListN.{length, getD}
+use lib.ListN.{length, getD, take}
 use lib.Signed.{_≤ℤ_}
+use Rattle.model.specs.Lists.{sumOf}
 
 -- a use: it holds `slot` for `duration` cycles, from `offset` cycles after the operation's start on (0 in version 1 of the file)
 pub record Use : Type 0 where
@@ -52,6 +53,14 @@ opAt l o = getD (l .ops) o noOp
 -- dependence e
 abbrev pub depAt : Loop → ℕ → Dep
 depAt l e = getD (l .deps) e noDep
+
+-- the uses of all operations, in operation order
+unfoldable pub allUses : Loop → List Use
+allUses l = flatMap (λ p. p .uses) (l .ops)
+
+-- the number of operation o's first use among them
+unfoldable pub firstUseOf : Loop → ℕ → ℕ
+firstUseOf l o = sumOf (λ p. length (p .uses)) (take o (l .ops))
 
 -- use j of an operation
 abbrev pub useAt : Op → ℕ → Use
