@@ -123,24 +123,42 @@ entry : (f : List ℕ) (s : Section) (start : ℕ) → firstRefusal (entryChecks
 unfolding entryChecks
 entry f s start e = search passing
 
--- the contents: the three entries, and the end of the last body
-record Contents (f : List ℕ) : Type 0 where
-  of-oper : Entry f oper
-  of-uses : Entry f uses
-  of-deps : Entry f deps
-  ends : endAt f ≡ length f
+-- what the lengths obey in contents that pass their table
+pub record Shape (f : List ℕ) : Type 0 where
+  pub oper-some : 1 ≤ opCount f
+  pub oper-few : opCount f ≤ 64
+  pub uses-few : recordsOf f uses ≤ 256
+  pub deps-few : depCount f ≤ 256
+  pub oper-whole : lengthOf f oper ≡ 2 * opCount f
+  pub uses-even : lengthOf f uses ≡ 2 * recordsOf f uses
+  pub deps-whole : lengthOf f deps ≡ 4 * depCount f
+  pub ends : endAt f ≡ length f
 
--- contents that pass their table
-contents : (f : List ℕ) → firstRefusal (contentsChecks f) ≡ none → Contents f
+-- contents that pass their table are so
+pub shape : (f : List ℕ) → firstRefusal (contentsChecks f) ≡ none → Shape f
 unfolding contentsChecks
-contents f e = search (passing, entry)
+shape f e =
+    let a : Entry f oper = search (passing, entry) in
+    let b : Entry f uses = search (passing, entry) in
+    let c : Entry f deps = search (passing, entry) in
+    let d : endAt f ≡ length f = search passing in
+    record {
+      oper-some = a .enough;
+      oper-few = a .few;
+      uses-few = b .few;
+      deps-few = c .few;
+      oper-whole = omega (arith, a .whole);
+      uses-even = omega (arith, b .whole);
+      deps-whole = omega (arith, c .whole);
+      ends = d;
+    }
 
 -- an accepted file has the layout
 pub layout : (f : List ℕ) → Accepted f → Layout f
 unfolding lengthChecks headChecks usesChecks
 layout f a =
     let p : Passed f = passed f a in
-    let c : Contents f = contents f (p .of-contents) in
+    let c : Shape f = shape f (p .of-contents) in
     search (passing, arith)
 
 -- the uses of an operation stand before those of the operations after it

@@ -2,6 +2,7 @@
 pub mod Lists
 pub mod Modular
 pub mod Signed
+pub mod Machine
 pub mod Loop
 pub mod File
 pub mod Legality

@@ -165,6 +165,21 @@ pairs-any p n h =
     ∙ row-any (λ c. any p (map (λ d. (c, d)) (upFrom c (n - c)))) 0 n
     (λ a l m. any-map p (λ c. (a, c)) (upFrom a (n - a)) ∙ row-any (λ c. p (a, c)) a (n - a) (λ b q r. h a b q (omega arith)))
 
+-- ---- flatMap
+
+module _ {A B : Type 0} where
+  pub flatMap-append : (f : A → List B) (xs ys : List A) → flatMap f (xs ++ ys) ≡ flatMap f xs ++ flatMap f ys
+  unfolding flatMap
+  flatMap-append f [] ys = refl
+  flatMap-append f (x ∷ xs) ys = ap (λ (r : List B). f x ++ r) (flatMap-append f xs ys) ∙ sym (append-assoc (f x) (flatMap f xs) (flatMap f ys))
+
+-- a row with one number more
+pub flat-next : {B : Type 0} (f : ℕ → List B) (n : ℕ) → flatMap f (upFrom 0 (n + 1)) ≡ flatMap f (upFrom 0 n) ++ f n
+unfolding flatMap upFrom
+flat-next f n =
+    ap (flatMap f) (upFrom-split 0 n 1) ∙ flatMap-append f (upFrom 0 n) ((0 + n) ∷ [])
+    ∙ ap (λ r. flatMap f (upFrom 0 n) ++ r) (append-nil (f (0 + n)) ∙ ap f (zero-add n))
+
 -- ---- counts and sums
 
 module _ {A : Type 0} where
@@ -333,3 +348,20 @@ passes-each t a (suc n) k e l m = pick (eq-or-lt-of-le l) (passes-each t (suc a)
     pick : (a ≡ k) ⊎ (a < k) → (suc a ≤ k → k < suc a + n → firstRefusal (t k) ≡ none) → firstRefusal (t k) ≡ none
     pick (inl q) ih = ap (λ (x : ℕ). firstRefusal (t x)) (sym q) ∙ passes-left (t a) (flatMap t (upFrom (suc a) n)) e
     pick (inr q) ih = ih q (omega arith)
+
+-- ---- tables of checks over a row, one number after the other
+
+-- what passes the tables of a row and the next table passes the row with that one
+pub row-next : (t : ℕ → List Check) (n : ℕ) → firstRefusal (flatMap t (upFrom 0 n)) ≡ none → firstRefusal (t n) ≡ none → firstRefusal (flatMap t (upFrom 0 (n + 1))) ≡ none
+row-next t n p q = rw (flat-next t n, refusal-append (flatMap t (upFrom 0 n)) (t n) p) q
+
+-- the first refusal of a row is that of the first table that is not passed
+pub row-refused : (t : ℕ → List Check) (k n : ℕ) (r : Refusal) → k < n → firstRefusal (flatMap t (upFrom 0 k)) ≡ none → firstRefusal (t k) ≡ some r
+    → firstRefusal (flatMap t (upFrom 0 n)) ≡ some r
+row-refused t k n r l p q =
+    let e : n ≡ k + 1 + (n - (k + 1)) = omega arith in
+    ap (λ (m : ℕ). firstRefusal (flatMap t (upFrom 0 m))) e
+    ∙ ap (λ (xs : List ℕ). firstRefusal (flatMap t xs)) (upFrom-split 0 (k + 1) (n - (k + 1)))
+    ∙ ap firstRefusal (flatMap-append t (upFrom 0 (k + 1)) (upFrom (0 + (k + 1)) (n - (k + 1))))
+    ∙ refusal-early (flatMap t (upFrom 0 (k + 1))) (flatMap t (upFrom (0 + (k + 1)) (n - (k + 1)))) r
+    (rw (flat-next t k, refusal-append (flatMap t (upFrom 0 k)) (t k) p) q)
