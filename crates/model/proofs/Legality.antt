@@ -12,7 +12,7 @@ use lib.ListN.{length, getD, getElem?}
 use borrow.Author.Tests.{eq-eqb, ne-eqb, eqb-true, eqb-false, leb-true, le-leb, not-true, not-false}
 use Rattle.model.specs.Lists.{upFrom, pairs, any}
 use Rattle.model.specs.Loop.{Op, Dep, Loop, size, opAt, depAt, noDep}
-use Rattle.model.specs.Legality.{Placing, placed, holds, brokenAt, broken, meets, Cell, sameCell, footprint, share, conflict, selfConflict, conflictAt, selfConflictAt, pairConflict, apart, legalAt, legal, placeAt, touches, breaks, meetsCells, fitsAt}
+use Rattle.model.specs.Legality.{Placing, placed, holds, brokenAt, broken, meets, Cell, sameCell, footprint, share, conflict, selfConflict, conflictAt, selfConflictAt, pairConflict, apart, legalAt, legal, placeAt, touches, breaks, conflictsWith, fitsAt}
 use Rattle.model.proofs.Lists.{false-not, and-left, and-right, and-both, same-true, or-false-left, or-false-right, or-both, same-test, any-at, at-any, any-row, row-any, any-pairs, pairs-any}
 use Rattle.model.proofs.Signed.{plus, minus, holds-parts}
 
@@ -56,17 +56,17 @@ parts-legal l ii f h = and-both (meets l ii f) (apart l ii f) (each-meets l ii f
 pub record Fits (l : Loop) (ii : ℕ) (f : Placing) (o t : ℕ) : Type 0 where
   pub kept : (e : ℕ) → e < length (l .deps) → breaks ii f o t (depAt l e) ≡ false
   pub self : selfConflict ii (opAt l o) ≡ false
-  pub clear : (p : ℕ) → p < size l → meetsCells l ii f o t p ≡ false
+  pub clear : (p : ℕ) → p < size l → conflictsWith l ii f o t p ≡ false
 
 pub fits-parts : (l : Loop) (ii : ℕ) (f : Placing) (o t : ℕ) → fitsAt l ii f o t ≡ true → Fits l ii f o t
 unfolding fitsAt
 fits-parts l ii f o t h =
     let d : any (breaks ii f o t) (l .deps) ≡ false = not-true (any (breaks ii f o t) (l .deps)) (and-left (not (any (breaks ii f o t) (l .deps))) _ h) in
-    let c : (selfConflict ii (opAt l o) || any (meetsCells l ii f o t) (upFrom 0 (size l))) ≡ false = not-true _ (and-right (not (any (breaks ii f o t) (l .deps))) _ h) in
+    let c : (selfConflict ii (opAt l o) || any (conflictsWith l ii f o t) (upFrom 0 (size l))) ≡ false = not-true _ (and-right (not (any (breaks ii f o t) (l .deps))) _ h) in
     record {
       kept = λ e m. any-at (breaks ii f o t) (l .deps) e noDep d m;
       self = or-false-left (selfConflict ii (opAt l o)) _ c;
-      clear = λ p m. any-row (meetsCells l ii f o t) 0 (size l) p (or-false-right (selfConflict ii (opAt l o)) _ c) (omega arith) (omega arith);
+      clear = λ p m. any-row (conflictsWith l ii f o t) 0 (size l) p (or-false-right (selfConflict ii (opAt l o)) _ c) (omega arith) (omega arith);
     }
 
 pub parts-fits : (l : Loop) (ii : ℕ) (f : Placing) (o t : ℕ) → Fits l ii f o t → fitsAt l ii f o t ≡ true
@@ -74,7 +74,7 @@ unfolding fitsAt
 parts-fits l ii f o t h =
     and-both (not (any (breaks ii f o t) (l .deps))) _
     (false-not (any (breaks ii f o t) (l .deps)) (at-any (breaks ii f o t) (l .deps) noDep (h .kept)))
-    (false-not _ (or-both (selfConflict ii (opAt l o)) _ (h .self) (row-any (meetsCells l ii f o t) 0 (size l) (λ p m q. h .clear p (omega arith)))))
+    (false-not _ (or-both (selfConflict ii (opAt l o)) _ (h .self) (row-any (conflictsWith l ii f o t) 0 (size l) (λ p m q. h .clear p (omega arith)))))
 
 -- ---- fewer operations
 
@@ -201,7 +201,7 @@ module _ (f : Placing) (o t : ℕ) where
 
 module _ (l : Loop) (ii : ℕ) (f : Placing) (o t : ℕ) (inside : o < size l) (open-yet : f o ≡ none) where
   -- a pair of two operations, one of them o
-  pair-o : (p : ℕ) → (p ≡ o → ⊥) → conflictAt ii (opAt l o) (placeAt f o t o) (opAt l p) (placeAt f o t p) ≡ meetsCells l ii f o t p
+  pair-o : (p : ℕ) → (p ≡ o → ⊥) → conflictAt ii (opAt l o) (placeAt f o t o) (opAt l p) (placeAt f o t p) ≡ conflictsWith l ii f o t p
   pair-o p n = rw (place-same f o t, place-other f o t p n, ne-eqb p o n)
 
   place-fits : Legal l ii (placeAt f o t) → Fits l ii f o t
@@ -214,7 +214,7 @@ module _ (l : Loop) (ii : ℕ) (f : Placing) (o t : ℕ) (inside : o < size l) (
       self-from : pairConflict l ii (placeAt f o t) (o, o) ≡ false → selfConflict ii (opAt l o) ≡ false
       self-from q = rw (eq-eqb o o refl) at q
 
-      other : (p : ℕ) → p < size l → Dec (p ≡ o) → Dec (p < o) → meetsCells l ii f o t p ≡ false
+      other : (p : ℕ) → p < size l → Dec (p ≡ o) → Dec (p < o) → conflictsWith l ii f o t p ≡ false
       other p m (yes e) d = rw (eq-eqb p o e)
       other p m (no n) (yes d) =
           sym (pair-o p n) ∙ conflictAt-sym ii (opAt l o) (placeAt f o t o) (opAt l p) (placeAt f o t p)

@@ -121,10 +121,10 @@ abbrev pub breaks : ℕ → Placing → ℕ → ℕ → Dep → Bool
 breaks ii f o t d = touches o d && broken ii (placeAt f o t) d
 
 -- operation o at t conflicts with the placed operation p, another one
-abbrev pub meetsCells : Loop → ℕ → Placing → ℕ → ℕ → ℕ → Bool
-meetsCells l ii f o t p = not (eqb p o) && conflictAt ii (opAt l o) (some t) (opAt l p) (f p)
+abbrev pub conflictsWith : Loop → ℕ → Placing → ℕ → ℕ → ℕ → Bool
+conflictsWith l ii f o t p = not (eqb p o) && conflictAt ii (opAt l o) (some t) (opAt l p) (f p)
 
 -- operation o fits at t: no dependence with itself or a placed operation is broken, no conflict with itself or one of those
 unfoldable pub fitsAt : Loop → ℕ → Placing → ℕ → ℕ → Bool
 fitsAt l ii f o t =
-    not (any (breaks ii f o t) (l .deps)) && not (selfConflict ii (opAt l o) || any (meetsCells l ii f o t) (upFrom 0 (size l)))
+    not (any (breaks ii f o t) (l .deps)) && not (selfConflict ii (opAt l o) || any (conflictsWith l ii f o t) (upFrom 0 (size l)))

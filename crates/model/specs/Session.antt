@@ -10,7 +10,7 @@ use Rattle.model.specs.Lists.{upFrom, any, first, sumOf}
 use Rattle.model.specs.Refusals.{Refusal, Check, check, firstRefusal, Answer, answered, refused, settle}
 use Rattle.model.specs.Loop.{Op, Dep, Loop, size, opAt, depAt}
 use Rattle.model.specs.File.{fileChecks, loopOf}
-use Rattle.model.specs.Legality.{Placing, selfConflict, breaks, meetsCells}
+use Rattle.model.specs.Legality.{Placing, selfConflict, touches, breaks, conflictsWith}
 use Rattle.model.specs.Table.{tableAt}
 use Rattle.model.specs.Search.{outside}
 
@@ -118,7 +118,7 @@ abbrev pub checks : Setup → Call → State → List Check
 checks u (place o t) st =
     absent u o ∷ taken st o ∷ late u o t
     ∷ breach (firstBroken u (placedIn (st .starts)) o t)
-    ∷ check (selfClash u o || any (meetsCells (u .loop) (u .ii) (placedIn (st .starts)) o t) (upFrom 0 (size (u .loop)))) 17 0
+    ∷ check (selfClash u o || any (conflictsWith (u .loop) (u .ii) (placedIn (st .starts)) o t) (upFrom 0 (size (u .loop)))) 17 0
     ∷ []
 checks u (force o t) st =
     absent u o ∷ taken st o ∷ late u o t ∷ breach (firstBroken u nowhere o t) ∷ check (selfClash u o) 17 0 ∷ []
@@ -129,15 +129,11 @@ checks u (rollback m) st = check (eqb m 0 || ltb (length (st .checkpoints)) m) 1
 
 -- ---- what each call does where it is not refused
 
--- only operation p of xs
-abbrev pub only : Starts → ℕ → Placing
-only xs p q = cond (eqb q p) (getD xs q none) none
-
 -- operation p is placed and conflicts with o at t, or a dependence between the two is broken
 unfoldable pub inTheWay : Setup → Starts → ℕ → ℕ → ℕ → Bool
 inTheWay u xs o t p =
     isPlaced (getD xs p none)
-    && (meetsCells (u .loop) (u .ii) (placedIn xs) o t p || any (breaks (u .ii) (only xs p) o t) (u .loop .deps))
+    && (conflictsWith (u .loop) (u .ii) (placedIn xs) o t p || any (λ d. touches p d && breaks (u .ii) (placedIn xs) o t d) (u .loop .deps))
 
 -- the starts without those of the operations in the way
 unfoldable pub without : Setup → Starts → ℕ → ℕ → Starts
