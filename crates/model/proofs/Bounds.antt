@@ -13,11 +13,12 @@ use lib.ListN.{length, getD, getElem?}
 use lib.Signed.{_<ℤ_}
 use borrow.Author.Tests.{leb-true, le-leb, not-false}
 use Rattle.model.specs.Refusals.{Refusal, Answer, answered, refused}
+use Rattle.model.specs.Integers.{plus, minus}
 use Rattle.model.specs.Loop.{Dep, Loop, size, depAt, DepOk}
 use Rattle.model.specs.Legality.{placed, holds, brokenAt, broken, meets}
 use Rattle.model.specs.Bounds.{resourceBound, Feasible, RecurrenceBound, Goes, Closed, delayOf, distanceOf, Heavy, Stuck, Lower, LowerIs, cyclic, beyond, within}
 use Rattle.model.proofs.Legality.{meets-each, each-meets, meets-more}
-use Rattle.model.proofs.Signed.{Is, is-pos, is-add, lt-of, of-lt, plus, minus, parts, holds-parts}
+use Rattle.model.proofs.Signed.{Is, is-pos, is-add, lt-of, of-lt, parts, holds-parts}
 
 -- ---- starts that meet the dependences, in naturals
 

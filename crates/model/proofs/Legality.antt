@@ -11,10 +11,11 @@ use lib.Dec.{eqb, leb, ltb, eqb-refl}
 use lib.ListN.{length, getD, getElem?}
 use borrow.Author.Tests.{eq-eqb, ne-eqb, eqb-true, eqb-false, leb-true, le-leb, not-true, not-false}
 use Rattle.model.specs.Lists.{upFrom, pairs, any}
+use Rattle.model.specs.Integers.{plus, minus}
 use Rattle.model.specs.Loop.{Op, Dep, Loop, size, opAt, depAt, noDep}
 use Rattle.model.specs.Legality.{Placing, placed, holds, brokenAt, broken, meets, Cell, sameCell, footprint, share, conflict, selfConflict, conflictAt, selfConflictAt, pairConflict, apart, legalAt, legal, placeAt, touches, breaks, conflictsWith, fitsAt}
 use Rattle.model.proofs.Lists.{false-not, and-left, and-right, and-both, same-true, or-false-left, or-false-right, or-both, same-test, any-at, at-any, any-row, row-any, any-pairs, pairs-any}
-use Rattle.model.proofs.Signed.{plus, minus, holds-parts}
+use Rattle.model.proofs.Signed.{holds-parts}
 
 -- ---- the parts of legality
 

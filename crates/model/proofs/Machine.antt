@@ -1,9 +1,10 @@
 -- Signed machine integers as differences of two naturals: what is needed so that a result fits, and what is read back. Assumes nothing.
 use mathlib.Core.Path.{_≡_}
+use mathlib.Core.Bool.{Bool}
 use Prim.Native.Nat.{ℕ, _+_, _^_, _≤_, _<_}
 use native.Mathlib.Omega.{arith}
 use lib.IntN.{ℤ, pos, negsuc}
-use lib.Signed.{mag}
+use lib.Signed.{mag, ltZ}
 use mir.Syntax.{Width}
 use mir.Val.{SFits, hbits, toZ, ofZ}
 use mir.ValLaws.{toZ-pos, toZ-ofZ}
@@ -28,3 +29,7 @@ is-back w {z} f h = rw (toZ-ofZ w z f) h
 -- a call's result r, which is y: `.ok` and `.ensures` of the call
 pub is-got : (w : Width) {r y : ℤ} {a b : ℕ} → mag r < 2 ^ hbits w → r ≡ y → Is y a b → Is (toZ w (ofZ w r)) a b
 is-got w f e h = is-back w (record { sfits = f }) (is-of e h)
+
+-- a test of two numbers that fit, from the test of what the machine reads back
+pub lt-plain : (w : Width) (a b : ℤ) {t : Bool} → SFits w a → SFits w b → ltZ (toZ w (ofZ w a)) (toZ w (ofZ w b)) ≡ t → ltZ a b ≡ t
+lt-plain w a b f g e = rw (toZ-ofZ w a f, toZ-ofZ w b g) at e

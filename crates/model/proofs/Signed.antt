@@ -8,6 +8,7 @@ use lib.IntN.{ℤ, pos, negsuc, negℤ, subℕ, _+ℤ_, _-ℤ_, _*ℤ_}
 use lib.Dec.{T, leb, ltb, ltb→lt, lt→ltb, nltb→le, leb→le, le→leb, nleb→lt}
 use lib.Signed.{leZ, ltZ, _≤ℤ_, _<ℤ_, leZ-yes, ltZ-yes}
 use borrow.Author.Tests.{lt-ltb, le-ltb, le-leb, lt-leb}
+use Rattle.model.specs.Integers.{plus, minus, maxℤ}
 use Rattle.model.specs.Loop.{Dep}
 use Rattle.model.specs.File.{signedByte}
 use Rattle.model.specs.Legality.{holds}
@@ -134,15 +135,7 @@ lt-of {a = a} {b = b} {c = c} {d = d} h k o = ltb→lt (a + d) (c + b) (rw (is-l
 pub of-lt : {x y : ℤ} {a b c d : ℕ} → Is x a b → Is y c d → a + d < c + b → x <ℤ y
 of-lt {a = a} {b = b} {c = c} {d = d} h k o = ltZ-yes (rw (is-ltZ h k) (lt→ltb (a + d) (c + b) o))
 
--- any number as a difference: the part above 0 and the part below, of which one is 0
-abbrev pub plus : ℤ → ℕ
-plus (pos n) = n
-plus (negsuc n) = 0
-
-abbrev pub minus : ℤ → ℕ
-minus (pos n) = 0
-minus (negsuc n) = suc n
-
+-- any number as a difference of its part above 0 and its part below, of which one is 0
 pub parts : (z : ℤ) → Is z (plus z) (minus z)
 parts (pos n) = omega arith
 parts (negsuc n) = omega arith
@@ -150,6 +143,13 @@ parts (negsuc n) = omega arith
 pub plus-le : (z : ℤ) (b : ℕ) → z ≤ℤ pos b → plus z ≤ b
 plus-le (pos n) b h = omega (arith, le-of (is-pos n) (is-pos b) h)
 plus-le (negsuc n) b h = omega arith
+
+-- the larger of two
+pub max-right : (a b : ℤ) → ltZ a b ≡ true → maxℤ a b ≡ b
+max-right a b e = rw e
+
+pub max-left : (a b : ℤ) → ltZ a b ≡ false → maxℤ a b ≡ a
+max-left a b e = rw e
 
 -- ---- a byte as a signed number
 

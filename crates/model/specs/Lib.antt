@@ -1,5 +1,6 @@
 -- The model of document 01, in its order. Everything else is proved against these definitions.
 pub mod Lists
+pub mod Integers
 pub mod Refusals
 pub mod Loop
 pub mod File
