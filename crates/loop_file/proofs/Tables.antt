@@ -1,0 +1,94 @@
+-- What the reader's loops over tables of checks say turn by turn, and the test of a signed range. Assumes nothing.
+use mathlib.Core.Path.{_≡_, refl, ap}
+use mathlib.Core.Bool.{Bool, true, false, not, _&&_, _||_}
+use mathlib.Core.List.{List, flatMap}
+use mathlib.Core.Option.{none, some}
+use Prim.Native.Nat.{ℕ, zero, suc, _+_, _*_, _≤_, _<_}
+use native.Mathlib.Omega.{arith}
+use native.Mathlib.Numerals.{add-one}
+use lib.Dec.{leb, ltb, ltb→lt, nltb→le}
+use lib.IntN.{ℤ, pos, negsuc}
+use lib.Signed.{leZ, ltZ}
+use borrow.Author.Tests.{lt-ltb, le-ltb, le-leb, lt-leb, ltb-false}
+use Rattle.model.specs.Lists.{upFrom}
+use Rattle.model.specs.Refusals.{Refusal, Check, firstRefusal, answered, refused, settle}
+use Rattle.model.specs.File.{byteAt, opRecord, usesOf, firstUse, opChecks}
+use Rattle.model.proofs.Lists.{row-refused, passes-head, passes-tail, passes-each}
+use Rattle.model.proofs.Signed.{by-test}
+use Rattle.loop_file.specs.declared.reader.Part.{Part}
+use Rattle.loop_file.specs.declared.reader.Part.the-variants.{Fine, Refused}
+use Rattle.loop_file.specs.Read.{partOf, opsTable}
+use Rattle.loop_file.proofs.Settled.{fine-none, refused-some, none-answered, some-refused}
+
+-- ---- a row of tables, which a loop goes through one number after the other
+
+-- no table, no refusal
+pub row-start : (t : ℕ → List Check) → firstRefusal (flatMap t (upFrom 0 0)) ≡ none
+unfolding upFrom flatMap firstRefusal
+row-start t = refl
+
+-- a row is refused as its first table that is not passed
+pub refused-at : (t : ℕ → List Check) (k n a : ℕ) {r : Refusal} → k < n → firstRefusal (flatMap t (upFrom 0 k)) ≡ none → firstRefusal (t k) ≡ some r
+    → refused r ≡ settle (flatMap t (upFrom 0 n)) a
+refused-at t k n a {r} l p q = some-refused a (row-refused t k n r l p q) refl
+
+-- a row whose tables are all passed is answered
+pub passed-all : (t : ℕ → List Check) (k n : ℕ) {v a : ℕ} → k ≡ n → firstRefusal (flatMap t (upFrom 0 k)) ≡ none → v ≡ a
+    → answered v ≡ settle (flatMap t (upFrom 0 n)) a
+passed-all t k n e p q = none-answered (rw e at p) q refl
+
+-- where another part of the reader settles one table: a fine part says that the table is passed, and a refused one is what the row comes to
+pub part-fine : (cs : List Check) {p : Part} {v : ℕ} → p ≡ Fine v → partOf p ≡ settle cs 0 → firstRefusal cs ≡ none
+part-fine cs e h = fine-none 0 h (ap partOf e)
+
+pub part-refused : (t : ℕ → List Check) (k n : ℕ) {p : Part} {x y : ℕ} → k < n → firstRefusal (flatMap t (upFrom 0 k)) ≡ none
+    → p ≡ Refused x y → partOf p ≡ settle (t k) 0 → partOf p ≡ settle (flatMap t (upFrom 0 n)) 0
+part-refused t k n l q e h = some-refused 0 (row-refused t k n _ l q (refused-some 0 h (ap partOf e))) (ap partOf e)
+
+-- the uses before the first operation, and before one operation more
+pub first-use-none : (f : List ℕ) → firstUse f 0 ≡ 0
+unfolding firstUse
+first-use-none f = refl
+
+pub first-use-next : (f : List ℕ) (o : ℕ) → firstUse f (o + 1) ≡ firstUse f o + usesOf f o
+unfolding firstUse
+first-use-next f o = rw (add-one o)
+
+-- ---- a signed range
+
+-- at most is not above
+leb-not : (a b : ℕ) → leb a b ≡ not (ltb b a)
+leb-not a b =
+    by-test (ltb b a)
+    (λ t. let h : b < a = ltb→lt b a t in rw (lt-ltb b a h, lt-leb a b h))
+    (λ t. let h : a ≤ b = nltb→le b a t in rw (le-ltb b a h, le-leb a b h))
+
+leZ-not : (a b : ℤ) → leZ a b ≡ not (ltZ b a)
+leZ-not (pos m) (pos n) = leb-not m n
+leZ-not (pos m) (negsuc n) = refl
+leZ-not (negsuc m) (pos n) = refl
+leZ-not (negsuc m) (negsuc n) = leb-not n m
+
+not-both : (a b : Bool) → not (not a && not b) ≡ (a || b)
+not-both true b = refl
+not-both false true = refl
+not-both false false = refl
+
+-- outside a range: below it or above it
+pub outside : (a b z : ℤ) → not (leZ a z && leZ z b) ≡ (ltZ z a || ltZ b z)
+outside a b z = rw (leZ-not a z, leZ-not z b) (not-both (ltZ z a) (ltZ b z))
+
+-- ---- the number of uses
+
+-- an operation that passes its table has at most four uses
+op-few : (f : List ℕ) (at : ℕ) → firstRefusal (opChecks f at) ≡ none → byteAt f (at + 1) ≤ 4
+unfolding opChecks
+op-few f at e = ltb-false 4 (byteAt f (at + 1)) (passes-head _ _ (passes-tail _ _ e))
+
+-- so all have at most four each
+pub uses-few : (f : List ℕ) (n : ℕ) → firstRefusal (opsTable f n) ≡ none → firstUse f n ≤ 4 * n
+uses-few f n e = go n (λ o l. op-few f (opRecord o) (passes-each (λ o. opChecks f (opRecord o)) 0 n o e (omega arith) (omega arith)))
+  where
+    go : (k : ℕ) → ((o : ℕ) → o < k → usesOf f o ≤ 4) → firstUse f k ≤ 4 * k
+    go zero h = omega (arith, first-use-none f)
+    go (suc k) h = omega (arith, go k (λ o l. h o (omega arith)), h k (omega arith), first-use-next f k, ap (firstUse f) (add-one k))
