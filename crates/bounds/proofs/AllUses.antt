@@ -1,0 +1,89 @@
+-- The uses of all operations in one row: their ranges, how many they are, and the total on a slot over them. Assumes nothing.
+use mathlib.Core.Path.{_≡_, sym, _∙_}
+use mathlib.Core.Bool.{Bool, true, false, cond}
+use mathlib.Core.List.{List, [], _∷_, flatMap}
+use Prim.Native.Nat.{ℕ, suc, _+_, _-_, _*_, _≤_, _<_}
+use native.Mathlib.Decide.{decLt}
+use native.Mathlib.Nat.{not-suc-le-zero}
+use native.Mathlib.Omega.{arith}
+use borrow.Author.Tests.{eq-eqb, ne-eqb}
+use lib.Dec.{eqb}
+use lib.ListN.{length, getD, length-append, List·getD-append}
+use lib.Seq.{getD-append-add}
+use Rattle.model.specs.Lists.{upFrom, sumOf}
+use Rattle.model.specs.Loop.{Use, Op, Loop, noUse, noOp, allUses, UseOk, OpOk, LoopOk}
+use Rattle.model.specs.Bounds.{totalOn}
+use Rattle.model.proofs.Lists.{sum-places}
+use Rattle.model.proofs.Sums.{sum-flatMap, sum-next, sum-most}
+
+-- ---- ranges
+
+-- the uses of some operations, in their order
+abbrev usesOf : List Op → List Use
+usesOf ps = flatMap (λ p. p .uses) ps
+
+-- each of the operations is in range
+abbrev EachOk : List Op → Type 0
+EachOk ps = (o : ℕ) → o < length ps → OpOk (getD ps o noOp)
+
+-- a use of the row is one of the first operation's, or of the others'
+use-ok : (ps : List Op) → EachOk ps → (u : ℕ) → u < length (usesOf ps) → UseOk (getD (usesOf ps) u noUse)
+unfolding flatMap
+use-ok [] each u h = absurd (not-suc-le-zero h)
+use-ok (p ∷ ps) each u h = pick (decLt u (length (p .uses))) (use-ok ps (λ o m. each (suc o) (omega arith)))
+  where
+    pick : Dec (u < length (p .uses)) → ((v : ℕ) → v < length (usesOf ps) → UseOk (getD (usesOf ps) v noUse)) → UseOk (getD (usesOf (p ∷ ps)) u noUse)
+    pick (yes m) ih = rw (List·getD-append (p .uses) (usesOf ps) noUse u m) (each 0 (omega arith) .each u m)
+    pick (no m) ih =
+        let e : u ≡ length (p .uses) + (u - length (p .uses)) = omega arith in
+        rw (e, getD-append-add (p .uses) (usesOf ps)) (ih (u - length (p .uses)) (omega (arith, length-append (p .uses) (usesOf ps))))
+
+-- each operation has at most four
+uses-few : (ps : List Op) → EachOk ps → length (usesOf ps) ≤ 4 * length ps
+unfolding flatMap
+uses-few [] each = omega arith
+uses-few (p ∷ ps) each =
+    omega (arith, length-append (p .uses) (usesOf ps), each 0 (omega arith) .few, uses-few ps (λ o m. each (suc o) (omega arith)))
+
+-- each of all uses is in range
+pub all-ok : (l : Loop) → LoopOk l → (u : ℕ) → u < length (allUses l) → UseOk (getD (allUses l) u noUse)
+unfolding allUses
+all-ok l ok = use-ok (l .ops) (ok .op-ok)
+
+-- and there are at most 256
+pub all-few : (l : Loop) → LoopOk l → length (allUses l) ≤ 256
+unfolding allUses
+all-few l ok = omega (arith, uses-few (l .ops) (ok .op-ok), ok .few)
+
+-- ---- totals
+
+-- what a use adds to the total on slot s
+abbrev pub onSlot : ℕ → Use → ℕ
+onSlot s u = cond (eqb (u .slot) s) (u .duration) 0
+
+-- the total over the first n of all uses
+abbrev pub totalTo : Loop → ℕ → ℕ → ℕ
+totalTo l s n = sumOf (λ u. onSlot s (getD (allUses l) u noUse)) (upFrom 0 n)
+
+-- over all of them it is the total on the slot
+pub total-all : (l : Loop) (s : ℕ) → totalTo l s (length (allUses l)) ≡ totalOn l s
+unfolding totalOn allUses
+total-all l s = sym (sum-places (onSlot s) (allUses l) noUse) ∙ sum-flatMap (onSlot s) (λ p. p .uses) (l .ops)
+
+-- one use more, on the slot or not
+pub total-on : (l : Loop) (s u : ℕ) → getD (allUses l) u noUse .slot ≡ s → totalTo l s (u + 1) ≡ totalTo l s u + getD (allUses l) u noUse .duration
+total-on l s u e = sum-next (λ v. onSlot s (getD (allUses l) v noUse)) u ∙ rw (eq-eqb (getD (allUses l) u noUse .slot) s e)
+
+pub total-off : (l : Loop) (s u : ℕ) → (getD (allUses l) u noUse .slot ≡ s → ⊥) → totalTo l s (u + 1) ≡ totalTo l s u
+total-off l s u e = sum-next (λ v. onSlot s (getD (allUses l) v noUse)) u ∙ rw (ne-eqb (getD (allUses l) u noUse .slot) s e) (omega arith)
+
+-- no use adds more than 16
+pub total-most : (l : Loop) → LoopOk l → (s n : ℕ) → n ≤ length (allUses l) → totalTo l s n ≤ 16 * n
+total-most l ok s n h = sum-most (λ u. onSlot s (getD (allUses l) u noUse)) 16 0 n (λ u a b. pick (getD (allUses l) u noUse) (all-ok l ok u (omega arith)))
+  where
+    part : (b : Bool) (d : ℕ) → d ≤ 16 → cond b d 0 ≤ 16
+    part true d h = h
+    part false d h = omega arith
+
+    pick : (u : Use) → UseOk u → onSlot s u ≤ 16
+    pick u k = part (eqb (u .slot) s) (u .duration) (omega (arith, k .ends))

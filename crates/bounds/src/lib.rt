@@ -1,0 +1,39 @@
+// The two lower bounds of the initiation interval (document 01): what the slots need, and what cycles of dependences need.
+pub mod recurrence;
+pub mod resource;
+
+use loop_file::Reading;
+ghost use mathlib.Core.Path.{_≡_};
+ghost use Rattle.model.specs.Bounds.{BoundsIs};
+ghost use Rattle.bounds.specs.Answer.{boundsOf, asBounds};
+
+// The resource bound and the recurrence bound, or a refusal with its number and detail.
+pub enum LowerBounds {
+    Found(usize, usize),
+    Refused(usize, usize),
+}
+
+// The bounds of any file. Refusal 9 has no place in the code: at 4,096 the dependences can be met, or they never can.
+pub fn bounds(file: &[u8]) -> LowerBounds
+    ensures { λ r. ⌜ BoundsIs (now (file .entry)) (boundsOf r) ⌝ }
+{
+    let reading = loop_file::read(file);
+    let Reading::Accepted(_, _, _) = reading else {
+        return passed_on(reading);
+    };
+    let least = recurrence::recurrence(file);
+    if least == 0 {
+        return LowerBounds::Refused(8, 0);
+    }
+    LowerBounds::Found(resource::resource(file), least)
+}
+
+// The reader's refusal as that of the bounds. (An accepted reading has none, and is not asked for one.)
+fn passed_on(r: Reading) -> LowerBounds
+    ensures { λ b. ⌜ b ≡ asBounds r ⌝ }
+{
+    match r {
+        Reading::Accepted(_, _, _) => LowerBounds::Refused(0, 0),
+        Reading::Refused(number, detail) => LowerBounds::Refused(number, detail),
+    }
+}

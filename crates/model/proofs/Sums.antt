@@ -1,0 +1,52 @@
+-- Laws of sums and of largest numbers. Assumes nothing.
+use mathlib.Core.Path.{_≡_, refl, sym, ap, _∙_}
+use mathlib.Core.List.{List, [], _∷_, _++_, flatMap}
+use Prim.Native.Nat.{ℕ, zero, suc, _+_, _*_, _≤_, _<_, max}
+use native.Mathlib.Omega.{arith}
+use Rattle.model.specs.Lists.{upFrom, sumOf, maxOf}
+use Rattle.model.proofs.Lists.{upFrom-split, sum-append, sum-add}
+
+module _ {A B : Type 0} where
+  -- a sum over a flatMap is the sum of the sums
+  pub sum-flatMap : (h : B → ℕ) (f : A → List B) (xs : List A) → sumOf h (flatMap f xs) ≡ sumOf (λ x. sumOf h (f x)) xs
+  unfolding sumOf flatMap
+  sum-flatMap h f [] = refl
+  sum-flatMap h f (x ∷ xs) = sum-append h (f x) (flatMap f xs) ∙ ap (λ (n : ℕ). sumOf h (f x) + n) (sum-flatMap h f xs)
+
+  -- two sums in the other order
+  pub sum-swap : (f : A → B → ℕ) (xs : List A) (ys : List B) → sumOf (λ x. sumOf (f x) ys) xs ≡ sumOf (λ y. sumOf (λ x. f x y) xs) ys
+  unfolding sumOf
+  sum-swap f [] ys = sym (zeros ys)
+    where
+      zeros : (ys : List B) → sumOf (λ y. 0) ys ≡ 0
+      zeros [] = refl
+      zeros (y ∷ ys) = omega (arith, zeros ys)
+  sum-swap f (x ∷ xs) ys = ap (λ (n : ℕ). sumOf (f x) ys + n) (sum-swap f xs ys) ∙ sym (sum-add (f x) (λ y. sumOf (λ z. f z y) xs) ys)
+
+-- a row with one number more
+pub sum-next : (f : ℕ → ℕ) (n : ℕ) → sumOf f (upFrom 0 (n + 1)) ≡ sumOf f (upFrom 0 n) + f n
+unfolding sumOf upFrom
+sum-next f n =
+    let e : 0 + n ≡ n = omega arith in
+    ap (sumOf f) (upFrom-split 0 n 1) ∙ sum-append f (upFrom 0 n) ((0 + n) ∷ []) ∙ rw e (omega arith)
+
+-- n terms of at most b
+pub sum-most : (f : ℕ → ℕ) (b a n : ℕ) → ((k : ℕ) → a ≤ k → k < a + n → f k ≤ b) → sumOf f (upFrom a n) ≤ b * n
+unfolding sumOf upFrom
+sum-most f b a zero h = omega arith
+sum-most f b a (suc n) h = omega (arith, h a (omega arith) (omega arith), sum-most f b (suc a) n (λ k l m. h k (omega arith) (omega arith)))
+
+-- the largest of a row with one number more
+pub max-next : (f : ℕ → ℕ) (a n : ℕ) → maxOf f (upFrom a (n + 1)) ≡ max (maxOf f (upFrom a n)) (f (a + n))
+unfolding maxOf upFrom
+max-next f a n = ap (maxOf f) (upFrom-split a n 1) ∙ append (upFrom a n)
+  where
+    append : (xs : List ℕ) → maxOf f (xs ++ ((a + n) ∷ [])) ≡ max (maxOf f xs) (f (a + n))
+    append [] = omega arith
+    append (x ∷ xs) = omega (arith, append xs)
+
+-- the largest of numbers of at most b
+pub max-most : (f : ℕ → ℕ) (b : ℕ) (xs : List ℕ) → ((x : ℕ) → f x ≤ b) → maxOf f xs ≤ b
+unfolding maxOf
+max-most f b [] h = omega arith
+max-most f b (x ∷ xs) h = omega (arith, h x, max-most f b xs h)
