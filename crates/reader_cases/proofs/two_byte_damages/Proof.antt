@@ -1,0 +1,50 @@
+-- `two_byte_damages` meets its contract: each turn takes an entry of the table. Assumes nothing.
+use Prim.Native.Nat.{_-_}
+use borrow.Author.Needs.{needs}
+use Rattle.reader_cases.proofs.two_byte_damages.Statement.{statement}
+use Rattle.reader_cases.proofs.two_byte_damages.Tie as tie
+
+abbrev Inv-loop : tie.InvT-loop
+Inv-loop i₀ i = Unit
+
+abbrev μ-loop : tie.MeasureT-loop
+μ-loop i₀ i = 31 - i
+
+loop-holds : tie.Need-loop-holds Inv-loop μ-loop
+loop-holds c = search needs
+
+mul-both : tie.Need-mul-both Inv-loop μ-loop
+mul-both c = search needs
+
+array-read-both : tie.Need-array-read-both Inv-loop μ-loop
+array-read-both c = search needs
+
+two-bytes-requires : tie.Need-two-bytes-requires Inv-loop μ-loop
+two-bytes-requires c κs = search needs
+
+add-i : tie.Need-add-i Inv-loop μ-loop
+add-i c = search needs
+
+loop-less : tie.Need-loop-less Inv-loop μ-loop
+loop-less c = search needs
+
+loop-again : tie.Need-loop-again Inv-loop μ-loop
+loop-again c = search needs
+
+returns : tie.Need-returns Inv-loop μ-loop
+returns c = search needs
+
+pub two-byte-damages-spec : {M : Type 1} → statement M
+two-byte-damages-spec =
+    tie.close
+    (tie.spec
+    Inv-loop
+    μ-loop
+    loop-holds
+    mul-both
+    array-read-both
+    two-bytes-requires
+    add-i
+    loop-less
+    loop-again
+    returns)
