@@ -11,5 +11,6 @@ pub mod Table
 pub mod Conflicts
 pub mod Bounds
 pub mod Answers
+pub mod Verifier
 pub mod Session
 pub mod Cases
