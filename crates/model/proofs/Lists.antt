@@ -79,6 +79,14 @@ pub upFrom-snoc : (a n : ℕ) → upFrom a (suc n) ≡ upFrom a n ++ ((a + n) �
 unfolding upFrom
 upFrom-snoc a n = let e : suc n ≡ n + 1 = omega arith in ap (upFrom a) e ∙ upFrom-split a n 1
 
+-- a row apart from one of its numbers
+pub row-around : (a n k : ℕ) → a ≤ k → k < a + n → upFrom a n ≡ upFrom a (k - a) ++ (k ∷ upFrom (suc k) (a + n - suc k))
+row-around a n k l m =
+    let e : n ≡ k - a + suc (a + n - suc k) = omega arith in
+    let g : a + (k - a) ≡ k = omega arith in
+    ap (upFrom a) e ∙ upFrom-split a (k - a) (suc (a + n - suc k)) ∙ ap (λ (x : ℕ). upFrom a (k - a) ++ upFrom x (suc (a + n - suc k))) g
+    ∙ ap (λ (r : List ℕ). upFrom a (k - a) ++ r) (upFrom-cons k (a + n - suc k))
+
 module _ {B : Type 0} where
   pub length-tabulate : (f : ℕ → B) (a n : ℕ) → length (map f (upFrom a n)) ≡ n
   unfolding upFrom
@@ -125,6 +133,34 @@ module _ {A : Type 0} where
   any-flatMap p f [] = refl
   any-flatMap p f (x ∷ xs) = any-append p (f x) (flatMap f xs) ∙ ap (λ (b : Bool). any p (f x) || b) (any-flatMap p f xs)
 
+  -- some element passes, said of a place
+  pub any-some : (p : A → Bool) (xs : List A) (d : A) → any p xs ≡ true → (i : ℕ) × (i < length xs) × (p (getD xs i d) ≡ true)
+  unfolding any
+  any-some p [] d e = let z : _≡_ {A = ℕ} 0 1 = cc in absurd (omega arith)
+  any-some p (x ∷ xs) d e = pick (p x) refl e (any-some p xs d)
+    where
+      pick : (b : Bool) → p x ≡ b → (b || any p xs) ≡ true → (any p xs ≡ true → (i : ℕ) × (i < length xs) × (p (getD xs i d) ≡ true))
+          → (i : ℕ) × (i < suc (length xs)) × (p (getD (x ∷ xs) i d) ≡ true)
+      pick true q h ih = (0, omega arith, q)
+      pick false q h ih = let w = ih h in (suc (w .0), omega (arith, w .1), w .2)
+
+  pub some-any : (p : A → Bool) (xs : List A) (d : A) (i : ℕ) → i < length xs → p (getD xs i d) ≡ true → any p xs ≡ true
+  some-any p xs d i l e = pick (any p xs) refl
+    where
+      pick : (b : Bool) → any p xs ≡ b → b ≡ true
+      pick true q = refl
+      pick false q = let f : p (getD xs i d) ≡ false = any-at p xs i d q l in let z : _≡_ {A = ℕ} 0 1 = cc in absurd (omega arith)
+
+  -- the first of two lists, one after the other
+  pub first-later : (p : A → Bool) (xs ys : List A) → any p xs ≡ false → first p (xs ++ ys) ≡ first p ys
+  unfolding any first
+  first-later p [] ys e = refl
+  first-later p (x ∷ xs) ys e = rw (or-false-left (p x) (any p xs) e) (first-later p xs ys (or-false-right (p x) (any p xs) e))
+
+  pub first-found : (p : A → Bool) (xs : List A) (x : A) (ys : List A) → any p xs ≡ false → p x ≡ true → first p (xs ++ (x ∷ ys)) ≡ some x
+  unfolding first
+  first-found p xs x ys e h = first-later p xs (x ∷ ys) e ∙ ap (λ (b : Bool). cond b (some x) (first p ys)) h
+
   -- the first that passes is there exactly where one does
   pub first-none : (p : A → Bool) (xs : List A) → any p xs ≡ false → first p xs ≡ none
   unfolding any first
@@ -165,6 +201,13 @@ pairs-any p n h =
     ∙ row-any (λ c. any p (map (λ d. (c, d)) (upFrom c (n - c)))) 0 n
     (λ a l m. any-map p (λ c. (a, c)) (upFrom a (n - a)) ∙ row-any (λ c. p (a, c)) a (n - a) (λ b q r. h a b q (omega arith)))
 
+-- the first number of a row that passes
+pub row-first : (p : ℕ → Bool) (n k : ℕ) → k < n → ((j : ℕ) → j < k → p j ≡ false) → p k ≡ true → first p (upFrom 0 n) ≡ some k
+row-first p n k l h e =
+    let g : k - 0 ≡ k = omega arith in
+    ap (first p) (row-around 0 n k (omega arith) (omega arith))
+    ∙ first-found p (upFrom 0 (k - 0)) k (upFrom (suc k) (0 + n - suc k)) (row-any p 0 (k - 0) (λ j a b. h j (omega arith))) e
+
 -- ---- flatMap
 
 module _ {A B : Type 0} where
@@ -179,6 +222,22 @@ unfolding flatMap upFrom
 flat-next f n =
     ap (flatMap f) (upFrom-split 0 n 1) ∙ flatMap-append f (upFrom 0 n) ((0 + n) ∷ [])
     ∙ ap (λ r. flatMap f (upFrom 0 n) ++ r) (append-nil (f (0 + n)) ∙ ap f (zero-add n))
+
+-- the first pair that passes: none with a smaller first number does, and none with that one and a smaller second
+pub pairs-first : (p : ℕ × ℕ → Bool) (n a b : ℕ) → a ≤ b → b < n → ((c d : ℕ) → c < a → c ≤ d → d < n → p (c, d) ≡ false) → ((d : ℕ) → a ≤ d → d < b → p (a, d) ≡ false)
+    → p (a, b) ≡ true → first p (pairs n) ≡ some (a, b)
+unfolding pairs flatMap
+pairs-first p n a b l m before beside e =
+    ap (λ (xs : List ℕ). first p (flatMap row xs)) (row-around 0 n a (omega arith) (omega arith))
+    ∙ ap (first p) (flatMap-append row (upFrom 0 (a - 0)) (a ∷ upFrom (suc a) (0 + n - suc a)))
+    ∙ first-later p (flatMap row (upFrom 0 (a - 0))) (row a ++ flatMap row (upFrom (suc a) (0 + n - suc a)))
+    (any-flatMap p row (upFrom 0 (a - 0)) ∙ row-any (λ c. any p (row c)) 0 (a - 0) (λ c q r. any-map p (λ d. (c, d)) (upFrom c (n - c)) ∙ row-any (λ d. p (c, d)) c (n - c) (λ d s t. before c d (omega arith) s (omega arith))))
+    ∙ ap (λ (xs : List (ℕ × ℕ)). first p (xs ++ flatMap row (upFrom (suc a) (0 + n - suc a)))) (ap (map (λ d. (a, d))) (row-around a (n - a) b l (omega arith)) ∙ map-append (λ d. (a, d)) (upFrom a (b - a)) (b ∷ upFrom (suc b) (a + (n - a) - suc b)))
+    ∙ ap (first p) (append-assoc (map (λ d. (a, d)) (upFrom a (b - a))) ((a, b) ∷ map (λ d. (a, d)) (upFrom (suc b) (a + (n - a) - suc b))) (flatMap row (upFrom (suc a) (0 + n - suc a))))
+    ∙ first-found p (map (λ d. (a, d)) (upFrom a (b - a))) (a, b) _ (any-map p (λ d. (a, d)) (upFrom a (b - a)) ∙ row-any (λ d. p (a, d)) a (b - a) (λ d q r. beside d q (omega arith))) e
+  where
+    row : ℕ → List (ℕ × ℕ)
+    row c = map (λ d. (c, d)) (upFrom c (n - c))
 
 -- ---- counts and sums
 
@@ -228,14 +287,6 @@ pub sum-none : (f : ℕ → ℕ) (a n : ℕ) → ((k : ℕ) → a ≤ k → k < 
 unfolding sumOf upFrom
 sum-none f a zero h = refl
 sum-none f a (suc n) h = rw (h a (omega arith) (omega arith), sum-none f (suc a) n (λ k l m. h k (omega arith) (omega arith)))
-
--- a row apart from one of its numbers
-pub row-around : (a n k : ℕ) → a ≤ k → k < a + n → upFrom a n ≡ upFrom a (k - a) ++ (k ∷ upFrom (suc k) (a + n - suc k))
-row-around a n k l m =
-    let e : n ≡ k - a + suc (a + n - suc k) = omega arith in
-    let g : a + (k - a) ≡ k = omega arith in
-    ap (upFrom a) e ∙ upFrom-split a (k - a) (suc (a + n - suc k)) ∙ ap (λ (x : ℕ). upFrom a (k - a) ++ upFrom x (suc (a + n - suc k))) g
-    ∙ ap (λ (r : List ℕ). upFrom a (k - a) ++ r) (upFrom-cons k (a + n - suc k))
 
 -- a sum over a row is one of its terms and the rest, which depends on the other terms alone
 pub sum-around : (f : ℕ → ℕ) (a n k : ℕ) → a ≤ k → k < a + n

@@ -44,8 +44,8 @@ module _ (l : Loop) (ii : ℕ) (xs : List ℕ) where
       let m : meets l ii (placed xs) ≡ true = and-left (meets l ii (placed xs)) (not (any (pairConflict l ii (placed xs)) (pairs (size l)))) h in
       let a : not (any (pairConflict l ii (placed xs)) (pairs (size l))) ≡ true = and-right (meets l ii (placed xs)) (not (any (pairConflict l ii (placed xs)) (pairs (size l)))) h in
       ap₂ judge
-          (first-none dep-test (upFrom 0 (length (l .deps))) (row-any dep-test 0 (length (l .deps)) (λ k p q. meets-each l ii (placed xs) m k (omega arith))))
-          (first-none (pairConflict l ii (placed xs)) (pairs (size l)) (not-true (any (pairConflict l ii (placed xs)) (pairs (size l))) a))
+      (first-none dep-test (upFrom 0 (length (l .deps))) (row-any dep-test 0 (length (l .deps)) (λ k p q. meets-each l ii (placed xs) m k (omega arith))))
+      (first-none (pairConflict l ii (placed xs)) (pairs (size l)) (not-true (any (pairConflict l ii (placed xs)) (pairs (size l))) a))
 
   -- a legal list meets its dependences, and no cell of its table occurs twice
   pub legal-once : LoopOk l → legality.legal l ii xs ≡ true → (meets l ii (placed xs) ≡ true) × ((s r : ℕ) → countOf s r (cellsOf l ii (placed xs)) ≤ 1)
