@@ -151,7 +151,7 @@ module _ (ii : ℕ) (p : Op) (t s r : ℕ) where
       omega (arith, footprint-sum, one-sum cycle 16 k l, hit-cycle k j h)
 
 -- the slots of the uses rise from each to any later one
-slots-rise : (p : Op) → OpOk p → (j k : ℕ) → j < k → k < length (p .uses) → useAt p j .slot < useAt p k .slot
+pub slots-rise : (p : Op) → OpOk p → (j k : ℕ) → j < k → k < length (p .uses) → useAt p j .slot < useAt p k .slot
 slots-rise p ok j zero l m = absurd (omega arith)
 slots-rise p ok j (suc k) l m = pick (eq-or-lt-of-le (le-of-suc-le-suc l)) (λ q. slots-rise p ok j k q (omega arith))
   where

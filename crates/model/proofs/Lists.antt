@@ -201,6 +201,14 @@ pairs-any p n h =
     ∙ row-any (λ c. any p (map (λ d. (c, d)) (upFrom c (n - c)))) 0 n
     (λ a l m. any-map p (λ c. (a, c)) (upFrom a (n - a)) ∙ row-any (λ c. p (a, c)) a (n - a) (λ b q r. h a b q (omega arith)))
 
+-- what fails below n, and at n, fails below n + 1
+pub below-next : (p : ℕ → Bool) (n : ℕ) → ((k : ℕ) → k < n → p k ≡ false) → p n ≡ false → (k : ℕ) → k < n + 1 → p k ≡ false
+below-next p n h e k l = pick (ℕ-discrete k n)
+  where
+    pick : Dec (k ≡ n) → p k ≡ false
+    pick (yes q) = ap p q ∙ e
+    pick (no q) = h k (omega arith)
+
 -- the first number of a row that passes
 pub row-first : (p : ℕ → Bool) (n k : ℕ) → k < n → ((j : ℕ) → j < k → p j ≡ false) → p k ≡ true → first p (upFrom 0 n) ≡ some k
 row-first p n k l h e =
