@@ -1,10 +1,8 @@
--- The uses of all operations in one row: their ranges, how many they are, and the total on a slot over them. Assumes nothing.
+-- The total on a slot over the uses of all operations in one row. Assumes nothing.
 use mathlib.Core.Path.{_≡_, sym, _∙_}
 use mathlib.Core.Bool.{Bool, true, false, cond}
 use mathlib.Core.List.{List, [], _∷_, flatMap}
 use Prim.Native.Nat.{ℕ, suc, _+_, _-_, _*_, _≤_, _<_}
-use native.Mathlib.Decide.{decLt}
-use native.Mathlib.Nat.{not-suc-le-zero}
 use native.Mathlib.Omega.{arith}
 use borrow.Author.Tests.{eq-eqb, ne-eqb}
 use lib.Dec.{eqb}
@@ -14,46 +12,8 @@ use Rattle.model.specs.Lists.{upFrom, sumOf}
 use Rattle.model.specs.Loop.{Use, Op, Loop, noUse, noOp, allUses, UseOk, OpOk, LoopOk}
 use Rattle.model.specs.Bounds.{totalOn}
 use Rattle.model.proofs.Lists.{sum-places}
+use Rattle.model.proofs.Loop.{all-ok, all-few}
 use Rattle.model.proofs.Sums.{sum-flatMap, sum-next, sum-most}
-
--- ---- ranges
-
--- the uses of some operations, in their order
-abbrev usesOf : List Op → List Use
-usesOf ps = flatMap (λ p. p .uses) ps
-
--- each of the operations is in range
-abbrev EachOk : List Op → Type 0
-EachOk ps = (o : ℕ) → o < length ps → OpOk (getD ps o noOp)
-
--- a use of the row is one of the first operation's, or of the others'
-use-ok : (ps : List Op) → EachOk ps → (u : ℕ) → u < length (usesOf ps) → UseOk (getD (usesOf ps) u noUse)
-unfolding flatMap
-use-ok [] each u h = absurd (not-suc-le-zero h)
-use-ok (p ∷ ps) each u h = pick (decLt u (length (p .uses))) (use-ok ps (λ o m. each (suc o) (omega arith)))
-  where
-    pick : Dec (u < length (p .uses)) → ((v : ℕ) → v < length (usesOf ps) → UseOk (getD (usesOf ps) v noUse)) → UseOk (getD (usesOf (p ∷ ps)) u noUse)
-    pick (yes m) ih = rw (List·getD-append (p .uses) (usesOf ps) noUse u m) (each 0 (omega arith) .each u m)
-    pick (no m) ih =
-        let e : u ≡ length (p .uses) + (u - length (p .uses)) = omega arith in
-        rw (e, getD-append-add (p .uses) (usesOf ps)) (ih (u - length (p .uses)) (omega (arith, length-append (p .uses) (usesOf ps))))
-
--- each operation has at most four
-uses-few : (ps : List Op) → EachOk ps → length (usesOf ps) ≤ 4 * length ps
-unfolding flatMap
-uses-few [] each = omega arith
-uses-few (p ∷ ps) each =
-    omega (arith, length-append (p .uses) (usesOf ps), each 0 (omega arith) .few, uses-few ps (λ o m. each (suc o) (omega arith)))
-
--- each of all uses is in range
-pub all-ok : (l : Loop) → LoopOk l → (u : ℕ) → u < length (allUses l) → UseOk (getD (allUses l) u noUse)
-unfolding allUses
-all-ok l ok = use-ok (l .ops) (ok .op-ok)
-
--- and there are at most 256
-pub all-few : (l : Loop) → LoopOk l → length (allUses l) ≤ 256
-unfolding allUses
-all-few l ok = omega (arith, uses-few (l .ops) (ok .op-ok), ok .few)
 
 -- ---- totals
 

@@ -1,5 +1,6 @@
 -- The laws of the model that the layers cite, and the theorem of the worked cases.
 pub mod Lists
+pub mod Firsts
 pub mod Sums
 pub mod Modular
 pub mod Signed

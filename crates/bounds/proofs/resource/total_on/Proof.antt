@@ -9,7 +9,8 @@ use Rattle.model.specs.Lists.{upFrom, sumOf}
 use Rattle.model.specs.Loop.{allUses}
 use Rattle.model.specs.File.{loopOf}
 use Rattle.model.proofs.File.{accepted-ok}
-use Rattle.bounds.proofs.AllUses.{all-ok, all-few, totalTo, total-all, total-on, total-off, total-most}
+use Rattle.model.proofs.Loop.{all-ok, all-few}
+use Rattle.bounds.proofs.AllUses.{totalTo, total-all, total-on, total-off, total-most}
 use Rattle.bounds.proofs.resource.total_on.Statement.{statement}
 use Rattle.bounds.proofs.resource.total_on.Tie as tie
 

@@ -1,0 +1,82 @@
+-- The first element of a list that passes, by places. Assumes nothing.
+use mathlib.Core.Path.{_≡_, refl, ap, _∙_}
+use mathlib.Core.Bool.{Bool, true, false, cond}
+use mathlib.Core.List.{List, [], _∷_, _++_, map, flatMap}
+use mathlib.Core.Option.{none, some}
+use Prim.Native.Nat.{ℕ, zero, suc, _+_, _-_, _<_}
+use native.Mathlib.Nat.{le-of-suc-le-suc, not-suc-le-zero}
+use native.Mathlib.Omega.{arith}
+use lib.ListN.{length, getD}
+use Rattle.model.specs.Lists.{upFrom, first}
+use Rattle.model.proofs.Lists.{any-map, any-flatMap, at-any, row-any, row-around, first-none, none-first, first-later, flatMap-append}
+
+module _ {A : Type 0} where
+  -- what stands within a list, whatever stands past its end
+  pub getD-within : (xs : List A) (i : ℕ) (d e : A) → i < length xs → getD xs i d ≡ getD xs i e
+  getD-within [] i d e l = absurd (not-suc-le-zero l)
+  getD-within (x ∷ xs) zero d e l = refl
+  getD-within (x ∷ xs) (suc i) d e l = getD-within xs i d e (le-of-suc-le-suc l)
+
+  -- none before place i passes, and that one does
+  pub first-at : (p : A → Bool) (xs : List A) (d : A) (i : ℕ) → i < length xs → ((j : ℕ) → j < i → p (getD xs j d) ≡ false) → p (getD xs i d) ≡ true
+      → first p xs ≡ some (getD xs i d)
+  unfolding first
+  first-at p [] d i l h e = absurd (not-suc-le-zero l)
+  first-at p (x ∷ xs) d zero l h e = rw e
+  first-at p (x ∷ xs) d (suc i) l h e = rw (h 0 (omega arith)) (first-at p xs d i (le-of-suc-le-suc l) (λ j m. h (suc j) (omega arith)) e)
+
+  -- none passes
+  pub first-not : (p : A → Bool) (xs : List A) (d : A) → ((i : ℕ) → i < length xs → p (getD xs i d) ≡ false) → first p xs ≡ none
+  first-not p xs d h = first-none p xs (at-any p xs d h)
+
+  -- of two lists, one after the other: found in the first
+  pub first-early : (p : A → Bool) (xs ys : List A) (y : A) → first p xs ≡ some y → first p (xs ++ ys) ≡ some y
+  unfolding first
+  first-early p [] ys y e = let z : _≡_ {A = ℕ} 0 1 = cc in absurd (omega arith)
+  first-early p (x ∷ xs) ys y e = pick (p x) e (first-early p xs ys y)
+    where
+      pick : (b : Bool) → cond b (some x) (first p xs) ≡ some y → (first p xs ≡ some y → first p (xs ++ ys) ≡ some y)
+          → cond b (some x) (first p (xs ++ ys)) ≡ some y
+      pick true q ih = q
+      pick false q ih = ih q
+
+  -- of a list put through f
+  pub first-map : {B : Type 0} (p : B → Bool) (f : A → B) (xs : List A) (y : A) → first (λ x. p (f x)) xs ≡ some y → first p (map f xs) ≡ some (f y)
+  unfolding first
+  first-map p f [] y e = let z : _≡_ {A = ℕ} 0 1 = cc in absurd (omega arith)
+  first-map p f (x ∷ xs) y e = pick (p (f x)) e (first-map p f xs y)
+    where
+      pick : (b : Bool) → cond b (some x) (first (λ v. p (f v)) xs) ≡ some y → (first (λ v. p (f v)) xs ≡ some y → first p (map f xs) ≡ some (f y))
+          → cond b (some (f x)) (first p (map f xs)) ≡ some (f y)
+      pick true q ih = let g : x ≡ y = cc in rw g
+      pick false q ih = ih q
+
+-- none of the numbers below n passes
+pub row-not : (p : ℕ → Bool) (n : ℕ) → ((k : ℕ) → k < n → p k ≡ false) → first p (upFrom 0 n) ≡ none
+row-not p n h = first-none p (upFrom 0 n) (row-any p 0 n (λ k l m. h k (omega arith)))
+
+-- the elements of a list, paired with each number below n in turn
+module _ {A : Type 0} (q : ℕ → A → Bool) (xs : List A) where
+  abbrev paired : ℕ → List (ℕ × A)
+  paired k = map (λ x. (k, x)) xs
+
+  abbrev passes : ℕ × A → Bool
+  passes p = q (p .0) (p .1)
+
+  -- none passes with any of the numbers
+  pub grid-not : (n : ℕ) → ((k : ℕ) → k < n → first (q k) xs ≡ none) → first passes (flatMap paired (upFrom 0 n)) ≡ none
+  grid-not n h =
+      first-none passes (flatMap paired (upFrom 0 n))
+      (any-flatMap passes paired (upFrom 0 n)
+      ∙ row-any _ 0 n (λ k l m. any-map passes (λ x. (k, x)) xs ∙ none-first (q k) xs (h k (omega arith))))
+
+  -- none with a number below k, and x is the first with k
+  pub grid-at : (n k : ℕ) (x : A) → k < n → ((j : ℕ) → j < k → first (q j) xs ≡ none) → first (q k) xs ≡ some x
+      → first passes (flatMap paired (upFrom 0 n)) ≡ some (k, x)
+  unfolding flatMap
+  grid-at n k x l h e =
+      let rest = upFrom (suc k) (0 + n - suc k) in
+      ap (λ (ks : List ℕ). first passes (flatMap paired ks)) (row-around 0 n k (omega arith) (omega arith))
+      ∙ ap (first passes) (flatMap-append paired (upFrom 0 (k - 0)) (k ∷ rest))
+      ∙ first-later passes (flatMap paired (upFrom 0 (k - 0))) (flatMap paired (k ∷ rest)) (none-first passes (flatMap paired (upFrom 0 (k - 0))) (grid-not (k - 0) (λ j m. h j (omega arith))))
+      ∙ first-early passes (paired k) (flatMap paired rest) (k, x) (first-map passes (λ y. (k, y)) xs x e)

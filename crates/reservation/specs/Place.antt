@@ -1,0 +1,41 @@
+-- The first place in which an operation meets a taken cell: cycle by cycle, and in a cycle by slot. Assumes nothing.
+use mathlib.Core.Path.{_≡_}
+use mathlib.Core.Bool.{Bool, true, false, _&&_, _||_}
+use mathlib.Core.List.{List, [], _∷_, map, flatMap}
+use mathlib.Core.Option.{Option, none, some, Option·map}
+use Prim.Native.Nat.{ℕ, _+_, _%_}
+use lib.Dec.{eqb, leb}
+use lib.ListN.{getD}
+use Rattle.model.specs.Lists.{upFrom, first}
+use Rattle.model.specs.Loop.{Use, Op}
+use Rattle.model.specs.Legality.{covers}
+use Rattle.model.specs.Table.{digitOf}
+use Rattle.reservation.specs.declared.Place.{Place}
+use Rattle.reservation.specs.declared.Place.the-variants.{Free, Taken}
+
+-- use u of an operation started at s meets in cycle k a cell that is taken: its bit is set, or the use itself covered it ii cycles before
+abbrev pub takenAt : ℕ → List ℕ → ℕ → ℕ → Use → Bool
+takenAt ii rows s k u = covers k u && (eqb (digitOf 2 (getD rows ((s + k) % ii) 0) (u .slot)) 1 || leb (u .offset + ii) k)
+
+-- the first use that does so in cycle k
+unfoldable pub takenIn : ℕ → List ℕ → ℕ → ℕ → List Use → Option Use
+takenIn ii rows s k us = first (takenAt ii rows s k) us
+
+-- its slot, and 0 where there is none
+abbrev pub slotIn : Option Use → ℕ
+slotIn none = 0
+slotIn (some u) = u .slot
+
+-- the first cycle, of 16, in which some use does, and the first such use
+unfoldable pub firstTaken : ℕ → List ℕ → ℕ → List Use → Option (ℕ × Use)
+firstTaken ii rows s us = first (λ p. takenAt ii rows s (p .0) (p .1)) (flatMap (λ k. map (λ u. (k, u)) us) (upFrom 0 16))
+
+-- what the conflict test says: the cycle, and the slot
+abbrev pub placeOf : Place → Option (ℕ × ℕ)
+placeOf Free = none
+placeOf (Taken k s) = some (k, s)
+
+-- of the model's first taken place
+abbrev pub placeIs : Option (ℕ × Use) → Option (ℕ × ℕ)
+placeIs none = none
+placeIs (some p) = some (p .0, p .1 .slot)

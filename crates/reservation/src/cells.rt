@@ -1,0 +1,94 @@
+// Reserving and releasing the cells of an operation, bit by bit.
+use loop_file::access::duration;
+use loop_file::access::first_use;
+use loop_file::access::offset;
+use loop_file::access::slot;
+use loop_file::access::use_count;
+ghost use mathlib.Core.Path.{_≡_};
+ghost use Prim.Native.Nat.{_<_, _≤_};
+ghost use lib.ListN.{length};
+ghost use Rattle.model.specs.Loop.{size, opAt};
+ghost use Rattle.model.specs.File.{loopOf, Accepted};
+ghost use Rattle.reservation.specs.Rows.{changed, overUse, overUses, withBit, lessBit, BitIs, UseIn, UsesIn};
+
+// Sets the bit of a slot in a row in which it is clear.
+fn set_bit(rows: &mut [u64], row: usize, slot: usize)
+    requires { ⌜ BitIs 0 (now rows) row slot ⌝ }
+    ensures { λ _. ⌜ now (rows .exit) ≡ changed (withBit slot) row (now (rows .entry)) ⌝ }
+{
+    rows[row] = rows[row] | (1 << (slot - 1));
+}
+
+// Clears the bit of a slot in a row in which it is set.
+fn clear_bit(rows: &mut [u64], row: usize, slot: usize)
+    requires { ⌜ BitIs 1 (now rows) row slot ⌝ }
+    ensures { λ _. ⌜ now (rows .exit) ≡ changed (lessBit slot) row (now (rows .entry)) ⌝ }
+{
+    rows[row] = rows[row] & !(1 << (slot - 1));
+}
+
+// Sets the bits of one use of n cycles from `start` on.
+fn reserve_use(rows: &mut [u64], interval: usize, start: usize, n: usize, slot: usize)
+    requires { ⌜ UseIn 0 (now rows) interval start n slot ⌝ }
+    ensures { λ _. ⌜ now (rows .exit) ≡ overUse (withBit slot) interval start n (now (rows .entry)) ⌝ }
+{
+    let mut k = 0;
+    while k < n {
+        set_bit(rows, (start + k) % interval, slot);
+        k = k + 1;
+    }
+}
+
+// Clears the bits of one use of n cycles from `start` on.
+fn release_use(rows: &mut [u64], interval: usize, start: usize, n: usize, slot: usize)
+    requires { ⌜ UseIn 1 (now rows) interval start n slot ⌝ }
+    ensures { λ _. ⌜ now (rows .exit) ≡ overUse (lessBit slot) interval start n (now (rows .entry)) ⌝ }
+{
+    let mut k = 0;
+    while k < n {
+        clear_bit(rows, (start + k) % interval, slot);
+        k = k + 1;
+    }
+}
+
+// Reserves the cells of an operation that fits.
+pub fn reserve(file: &[u8], op: usize, start: usize, interval: usize, rows: &mut [u64])
+    requires { ⌜ Accepted (now file) × (op < size (loopOf (now file))) × UsesIn 0 (now rows) interval start (opAt (loopOf (now file)) op .uses) ⌝ }
+    ensures { λ _. ⌜ now (rows .exit) ≡ overUses withBit interval start (opAt (loopOf (now (file .entry))) op .uses) (length (opAt (loopOf (now (file .entry))) op .uses)) (now (rows .entry)) ⌝ }
+{
+    let first = first_use(file, op);
+    let n = use_count(file, op);
+    let mut j = 0;
+    while j < n {
+        let u = first + j;
+        reserve_use(
+            rows,
+            interval,
+            start + offset(file, u),
+            duration(file, u),
+            slot(file, u),
+        );
+        j = j + 1;
+    }
+}
+
+// Releases the cells of an operation that are reserved.
+pub fn release(file: &[u8], op: usize, start: usize, interval: usize, rows: &mut [u64])
+    requires { ⌜ Accepted (now file) × (op < size (loopOf (now file))) × UsesIn 1 (now rows) interval start (opAt (loopOf (now file)) op .uses) ⌝ }
+    ensures { λ _. ⌜ now (rows .exit) ≡ overUses lessBit interval start (opAt (loopOf (now (file .entry))) op .uses) (length (opAt (loopOf (now (file .entry))) op .uses)) (now (rows .entry)) ⌝ }
+{
+    let first = first_use(file, op);
+    let n = use_count(file, op);
+    let mut j = 0;
+    while j < n {
+        let u = first + j;
+        release_use(
+            rows,
+            interval,
+            start + offset(file, u),
+            duration(file, u),
+            slot(file, u),
+        );
+        j = j + 1;
+    }
+}

@@ -1,0 +1,17 @@
+// The modulo reservation table, over an accepted file: whether an operation fits in the rows, reserving and releasing its cells, and which dependence it would
+// break. Internal: the verifier, the session and the search share these functions, and each asks for what it needs.
+pub mod cells;
+pub mod deps;
+pub mod test;
+
+// What the conflict test answers: the operation fits, or the first cycle (counted from its start) in which it meets a taken cell, with the lowest such slot.
+pub enum Place {
+    Free,
+    Taken(usize, usize),
+}
+
+// What the search for a broken dependence answers: none, or the first by its number.
+pub enum Broken {
+    Nothing,
+    At(usize),
+}
