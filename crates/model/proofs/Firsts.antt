@@ -55,6 +55,16 @@ module _ {A : Type 0} where
 pub row-not : (p : ℕ → Bool) (n : ℕ) → ((k : ℕ) → k < n → p k ≡ false) → first p (upFrom 0 n) ≡ none
 row-not p n h = first-none p (upFrom 0 n) (row-any p 0 n (λ k l m. h k (omega arith)))
 
+-- what is found first in a row is of the row
+pub row-within : (p : ℕ → Bool) (a n k : ℕ) → first p (upFrom a n) ≡ some k → k < a + n
+unfolding first upFrom
+row-within p a zero k e = let z : _≡_ {A = ℕ} 0 1 = cc in absurd (omega arith)
+row-within p a (suc n) k e = pick (p a) e (row-within p (suc a) n k)
+  where
+    pick : (b : Bool) → cond b (some a) (first p (upFrom (suc a) n)) ≡ some k → (first p (upFrom (suc a) n) ≡ some k → k < suc a + n) → k < a + suc n
+    pick true q ih = let z : a ≡ k = cc in omega arith
+    pick false q ih = omega (arith, ih q)
+
 -- the elements of a list, paired with each number below n in turn
 module _ {A : Type 0} (q : ℕ → A → Bool) (xs : List A) where
   abbrev paired : ℕ → List (ℕ × A)

@@ -186,6 +186,10 @@ pub row-any : (p : ℕ → Bool) (a n : ℕ) → ((k : ℕ) → a ≤ k → k < 
 row-any p a n h =
     at-any p (upFrom a n) 0 (λ i l. let j : i < n = rw length-upFrom at l in ap p (getD-upFrom a n i 0 j) ∙ h (a + i) (omega arith) (omega arith))
 
+-- some number of a row passes
+pub row-some : (p : ℕ → Bool) (n k : ℕ) → k < n → p k ≡ true → any p (upFrom 0 n) ≡ true
+row-some p n k l e = some-any p (upFrom 0 n) 0 k (rw length-upFrom l) (ap p (getD-upFrom 0 n k 0 l ∙ zero-add k) ∙ e)
+
 -- no pair passes
 pub any-pairs : (p : ℕ × ℕ → Bool) (n a b : ℕ) → any p (pairs n) ≡ false → a ≤ b → b < n → p (a, b) ≡ false
 unfolding pairs

@@ -7,3 +7,4 @@ pub mod Free
 pub mod Seats
 pub mod Taken
 pub mod Fits
+pub mod Meeting

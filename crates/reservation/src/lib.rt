@@ -2,6 +2,7 @@
 // break. Internal: the verifier, the session and the search share these functions, and each asks for what it needs.
 pub mod cells;
 pub mod deps;
+pub mod pairs;
 pub mod test;
 
 // What the conflict test answers: the operation fits, or the first cycle (counted from its start) in which it meets a taken cell, with the lowest such slot.

@@ -1,0 +1,41 @@
+-- What the verifier's answers say, in document 01's numbers. Assumes nothing.
+use mathlib.Core.List.{List}
+use mathlib.Core.Option.{Option, none, some}
+use Prim.Native.Nat.{ℕ}
+use Rattle.model.specs.Refusals.{Answer, answered, refused}
+use Rattle.model.specs.Verifier as model
+use Rattle.loop_file.specs.declared.Reading.{Reading}
+use Rattle.loop_file.specs.declared.Reading.the-variants as reading
+use Rattle.verifier.specs.declared.Verdict.{Verdict}
+use Rattle.verifier.specs.declared.Verdict.the-variants as verdict
+use Rattle.reservation.specs.declared.Broken.{Broken}
+use Rattle.reservation.specs.declared.Broken.the-variants as broken
+use Rattle.verifier.specs.declared.walk.Pair.{Pair}
+use Rattle.verifier.specs.declared.walk.Pair.the-variants as pair
+
+-- what `verify` says
+abbrev pub verdictOf : Verdict → Answer model.Verdict
+verdictOf verdict.Legal = answered model.legal
+verdictOf (verdict.Broken e) = answered (model.breach e)
+verdictOf (verdict.Conflict a b) = answered (model.clash a b)
+verdictOf (verdict.Refused n d) = refused (record { number = n; detail = d })
+
+-- the reader's refusal as the verifier's
+abbrev pub asVerdict : Reading → Verdict
+asVerdict (reading.Accepted a b c) = verdict.Refused 0 0
+asVerdict (reading.Refused n d) = verdict.Refused n d
+
+-- a broken dependence, and a pair that conflicts, as a verdict; legal where there is none
+abbrev pub asBroken : Broken → Verdict
+asBroken broken.Nothing = verdict.Legal
+asBroken (broken.At e) = verdict.Broken e
+
+-- the pair
+abbrev pub asConflict : Pair → Verdict
+asConflict pair.Nothing = verdict.Legal
+asConflict (pair.At a b) = verdict.Conflict a b
+
+-- what the walk over pairs says
+abbrev pub pairOf : Pair → Option (ℕ × ℕ)
+pairOf pair.Nothing = none
+pairOf (pair.At a b) = some (a, b)
