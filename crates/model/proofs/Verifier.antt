@@ -21,12 +21,25 @@ use borrow.Author.Tests.{not-true}
 none-found : (d : Option ℕ) (p : Option (ℕ × ℕ)) → judge d p ≡ legal → (d ≡ none) × (p ≡ none)
 none-found none none e = (refl, refl)
 none-found none (some p) e = let z : _≡_ {A = ℕ} 0 1 = cc in absurd (omega arith)
-none-found (some x) p e = let z : _≡_ {A = ℕ} 0 1 = cc in absurd (omega arith)
+none-found (some x) none e = let z : _≡_ {A = ℕ} 0 1 = cc in absurd (omega arith)
+none-found (some x) (some p) e = let z : _≡_ {A = ℕ} 0 1 = cc in absurd (omega arith)
+
+-- a broken dependence is said whatever pair conflicts
+breach-judged : (e : ℕ) (p : Option (ℕ × ℕ)) → judge (some e) p ≡ breach e
+breach-judged e none = refl
+breach-judged e (some p) = refl
 
 module _ (l : Loop) (ii : ℕ) (xs : List ℕ) where
   -- the test of dependence e, and of a pair
   abbrev dep-test : ℕ → Bool
   dep-test e = broken ii (placed xs) (depAt l e)
+
+  -- dependences come before conflicts
+  pub breach-first : (e : ℕ) → first dep-test (upFrom 0 (length (l .deps))) ≡ some e → verdict l ii xs ≡ breach e
+  unfolding verdict
+  breach-first e h =
+      let p = first (pairConflict l ii (placed xs)) (pairs (size l)) in
+      ap (λ (d : Option ℕ). judge d p) h ∙ breach-judged e p
 
   -- what is judged legal is legal
   pub verdict-legal : verdict l ii xs ≡ legal → legality.legal l ii xs ≡ true

@@ -1,0 +1,84 @@
+-- The verifier says legal exactly where the file is accepted, the proposal passes and the list is legal. Assumes nothing.
+use mathlib.Core.Path.{_≡_, refl, ap, _∙_}
+use mathlib.Core.Bool.{Bool, true, false, _||_}
+use mathlib.Core.List.{List, _++_}
+use mathlib.Core.Option.{Option, none, some}
+use Prim.Native.Nat.{ℕ, _≤_}
+use native.Mathlib.Omega.{arith}
+use lib.Dec.{leb, ltb}
+use lib.ListN.{length, getD, take}
+use borrow.Author.Tests.{ltb-false, leb-false}
+use Rattle.model.specs.Lists.{upFrom, first}
+use Rattle.model.specs.Refusals.{Refusal, Check, firstRefusal, Answer, answered, settled}
+use Rattle.model.specs.Loop.{Loop, size}
+use Rattle.model.specs.File.{fileChecks, loopOf, Accepted}
+use Rattle.model.specs.Legality as legality
+use Rattle.model.specs.Table.{countOf, cellsOf}
+use Rattle.model.specs.Verifier.{Verdict, legal, lateAt, proposalChecks, verdict, verifyFile}
+use Rattle.model.proofs.Lists.{or-false-left, or-false-right, any-row, none-first, passes-left, passes-right, passes-head, passes-tail, refusal-append}
+use Rattle.model.proofs.File.{accepted-ok}
+use Rattle.model.proofs.Verifier.{verdict-legal, legal-verdict, legal-once, once-legal}
+use Rattle.verifier.specs.Walk.{Proposal}
+use Rattle.verifier.proofs.Asked.{passes}
+
+-- a proposal that passes its checks is one
+pub passes-asked : (l : Loop) (ii : ℕ) (xs : List ℕ) → firstRefusal (proposalChecks l ii xs) ≡ none → Proposal l ii xs
+unfolding proposalChecks
+passes-asked l ii xs e = record {
+  some = ltb-false ii 1 (or-false-left (ltb ii 1) (ltb 4096 ii) interval);
+  short = ltb-false 4096 ii (or-false-right (ltb ii 1) (ltb 4096 ii) interval);
+  all = ltb-false (length xs) (size l) (passes-head _ _ (passes-tail _ _ e));
+  early = λ o h. leb-false 4096 (getD xs o 0) (any-row late 0 (size l) o (none-first late (upFrom 0 (size l)) (not-late _ (passes-head _ _ (passes-tail _ _ (passes-tail _ _ e))))) (omega arith) (omega arith));
+}
+  where
+    late : ℕ → Bool
+    late o = leb 4096 (getD xs o 0)
+
+    interval : (ltb ii 1 || ltb 4096 ii) ≡ false
+    interval = passes-head _ _ e
+
+    not-late : (o : Option ℕ) → lateAt o .fails ≡ false → o ≡ none
+    not-late none q = refl
+    not-late (some o) q = let z : _≡_ {A = ℕ} 0 1 = cc in absurd (omega arith)
+
+-- an answer that is no refusal
+settled-answer : (o : Option Refusal) (v w : Verdict) → settled o v ≡ answered w → (o ≡ none) × (v ≡ w)
+settled-answer none v w e = (refl, cc)
+settled-answer (some r) v w e = let z : _≡_ {A = ℕ} 0 1 = cc in absurd (omega arith)
+
+module _ (f : List ℕ) (ii : ℕ) (xs : List ℕ) where
+  -- the starts that count
+  abbrev starts : List ℕ
+  starts = take (size (loopOf f)) xs
+
+  -- what `legal` says of file, interval and list
+  pub record IsLegal : Type 0 where
+    pub file : Accepted f
+    pub asked : Proposal (loopOf f) ii xs
+    pub list : legality.legal (loopOf f) ii starts ≡ true
+
+  pub says-legal : verifyFile f ii xs ≡ answered legal → IsLegal
+  unfolding verifyFile
+  says-legal e =
+      let s = settled-answer (firstRefusal (fileChecks f ++ proposalChecks (loopOf f) ii xs)) (verdict (loopOf f) ii starts) legal e in
+      record {
+        file = passes-left (fileChecks f) (proposalChecks (loopOf f) ii xs) (s .0);
+        asked = passes-asked (loopOf f) ii xs (passes-right (fileChecks f) (proposalChecks (loopOf f) ii xs) (s .0));
+        list = verdict-legal (loopOf f) ii starts (s .1);
+      }
+
+  pub legal-said : IsLegal → verifyFile f ii xs ≡ answered legal
+  unfolding verifyFile
+  legal-said h =
+      ap (λ (o : Option Refusal). settled o (verdict (loopOf f) ii starts)) (refusal-append (fileChecks f) (proposalChecks (loopOf f) ii xs) (h .file) ∙ passes (loopOf f) ii xs (h .asked))
+      ∙ ap (λ (v : Verdict). answered v) (legal-verdict (loopOf f) ii starts (h .list))
+
+  -- the list by its table: no cell is taken twice, and every dependence holds
+  abbrev Tidy : Type 0
+  Tidy = (legality.meets (loopOf f) ii (legality.placed starts) ≡ true) × ((s r : ℕ) → countOf s r (cellsOf (loopOf f) ii (legality.placed starts)) ≤ 1)
+
+  pub legal-tidy : IsLegal → Tidy
+  legal-tidy h = legal-once (loopOf f) ii starts (accepted-ok f (h .file)) (h .list)
+
+  pub tidy-legal : Accepted f → Proposal (loopOf f) ii xs → Tidy → IsLegal
+  tidy-legal a p t = record { file = a; asked = p; list = once-legal (loopOf f) ii starts (accepted-ok f a) (p .some) (t .0) (t .1) }
