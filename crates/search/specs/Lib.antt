@@ -1,0 +1,3 @@
+pub mod Span
+pub mod Stages
+pub mod Tree

@@ -1,0 +1,3 @@
+// The search for a schedule, and what a schedule says of each operation.
+pub mod stages;
+pub mod window;
