@@ -8,3 +8,4 @@ pub mod Seats
 pub mod Taken
 pub mod Fits
 pub mod Meeting
+pub mod Stores

@@ -6,3 +6,4 @@ pub mod Turns
 pub mod Differences
 pub mod Spans
 pub mod Leaf
+pub mod Steps

@@ -1,3 +1,4 @@
+pub mod Descent
 pub mod Span
 pub mod Stages
 pub mod Tree
