@@ -7,3 +7,4 @@ pub mod Differences
 pub mod Spans
 pub mod Leaf
 pub mod Steps
+pub mod Tops

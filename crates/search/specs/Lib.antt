@@ -1,4 +1,5 @@
 pub mod Descent
 pub mod Span
 pub mod Stages
+pub mod Sweep
 pub mod Tree

@@ -2,6 +2,7 @@
 pub mod descent;
 pub mod memory;
 pub mod stages;
+pub mod sweep;
 pub mod window;
 
 // What a part of the search comes to: every operation has a start, and so much is left of the budget; the budget is spent; there is no list, and so much is left.
@@ -9,4 +10,11 @@ pub enum Found {
     All(usize),
     Spent,
     Nothing(usize),
+}
+
+// What the sweep over the intervals comes to: the interval at which a list is found, and what is left of the budget; none, and what is left; the interval at which the budget is spent.
+pub enum Swept {
+    Found(usize, usize),
+    Nothing(usize),
+    Spent(usize),
 }
