@@ -20,7 +20,7 @@ use Rattle.model.specs.Bounds.{totalOn, resourceBound}
 use Rattle.model.proofs.Lists.{and-right, count-flatMap, sum-same, sum-none, sum-around, sum-places}
 use Rattle.model.proofs.Table.{count-cell-same, count-cell-slot, count-cell-row}
 use Rattle.model.proofs.Conflicts.{apart-once}
-use Rattle.model.proofs.Bounds.{placed-in}
+use Rattle.model.proofs.Placed.{placed-in}
 use Rattle.model.proofs.Sums.{sum-swap, sum-next, sum-most, max-most}
 use Rattle.bounds.proofs.AllUses.{onSlot}
 

@@ -1,6 +1,6 @@
 // The two lower bounds of the initiation interval (document 01): what the slots need, and what cycles of dependences need.
-pub mod recurrence;
-pub mod resource;
+mod recurrence;
+mod resource;
 
 use loop_file::Reading;
 ghost use mathlib.Core.Path.{_≡_};

@@ -6,7 +6,7 @@ use Prim.Native.Nat.{ℕ, _*_}
 use borrow.Author.Tests.{eq-eqb, ne-eqb}
 use Rattle.model.specs.Refusals.{Refusal, Check, firstRefusal}
 use Rattle.model.specs.File.{uses, lengthOf, usesAt, depsAt, opCount, depCount, firstUse, lengthChecks, headChecks, contentsChecks, usesChecks, fileChecks, Accepted}
-use Rattle.model.proofs.Lists.{refusal-append, refusal-early}
+use Rattle.model.proofs.Checks.{refusal-append, refusal-early}
 use Rattle.loop_file.specs.Read.{refusal, opsTable, usesTable, depsTable, bodyChecks}
 
 -- ---- the uses: their number, then each

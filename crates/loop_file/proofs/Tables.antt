@@ -13,7 +13,7 @@ use borrow.Author.Tests.{lt-ltb, le-ltb, le-leb, lt-leb, ltb-false}
 use Rattle.model.specs.Lists.{upFrom}
 use Rattle.model.specs.Refusals.{Refusal, Check, firstRefusal, answered, refused, settle}
 use Rattle.model.specs.File.{byteAt, opRecord, usesOf, firstUse, opChecks}
-use Rattle.model.proofs.Lists.{row-refused, passes-head, passes-tail, passes-each}
+use Rattle.model.proofs.Checks.{row-refused, passes-head, passes-tail, passes-each}
 use Rattle.model.proofs.Signed.{by-test}
 use Rattle.loop_file.specs.declared.reader.Part.{Part}
 use Rattle.loop_file.specs.declared.reader.Part.the-variants.{Fine, Refused}

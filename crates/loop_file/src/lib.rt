@@ -1,8 +1,8 @@
 // The reader of loop files (document 01): from any bytes to an accepted loop or the first refusal; the three section bodies; and, in
 // `access`, what the layers above read of an accepted file.
 pub mod access;
-pub mod bytes;
-pub mod reader;
+mod bytes;
+mod reader;
 
 use crate::bytes::word;
 use crate::reader::Part;

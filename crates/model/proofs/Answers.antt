@@ -8,7 +8,7 @@ use Rattle.model.specs.Refusals.{Refusal, Answer, answered, refused, fir
 use Rattle.model.specs.File.{loopOf, Accepted, fileChecks}
 use Rattle.model.specs.Bounds.{Lower, LowerIs, BoundsIs, by-file, by-loop}
 use Rattle.model.specs.Search.{Request, Outcome, requestChecks, roomChecks, searchChecks, sweep, intervals, SearchIs, by-check, by-bound, by-sweep}
-use Rattle.model.proofs.Lists.{passes-left}
+use Rattle.model.proofs.Checks.{passes-left}
 use Rattle.model.proofs.File.{accepted-ok}
 use Rattle.model.proofs.Bounds.{lower-unique}
 

@@ -1,32 +1,23 @@
 -- Laws of the bounds: longer intervals, closed walks that rule an interval out, and that each answer is the only one. Assumes nothing.
-use mathlib.Core.Path.{_≡_, refl, sym, ap, ap₂, _∙_}
-use mathlib.Core.Bool.{Bool, true, false, not}
+use mathlib.Core.Path.{_≡_, sym, ap, ap₂, _∙_}
+use mathlib.Core.Bool.{true, not}
 use mathlib.Core.List.{List, [], _∷_}
-use mathlib.Core.Option.{Option, none, some}
-use Prim.Native.Nat.{ℕ, zero, suc, _+_, _*_, _≤_, _<_}
-use native.Mathlib.Nat.{mul-add, mul-zero, not-suc-le-zero, le-of-suc-le-suc}
+use Prim.Native.Nat.{ℕ, _+_, _*_, _≤_, _<_}
+use native.Mathlib.Nat.{mul-add, mul-zero}
 use native.Mathlib.Decide.{decLt}
 use native.Mathlib.Omega.{arith}
-use lib.Dec.{leb}
-use lib.IntN.{ℤ, pos}
-use lib.ListN.{length, getD, getElem?}
-use lib.Signed.{_<ℤ_}
+use lib.ListN.{length, getD}
 use borrow.Author.Tests.{leb-true, le-leb, not-false}
-use Rattle.model.specs.Refusals.{Refusal, Answer, answered, refused}
+use Rattle.model.specs.Refusals.{Answer, answered}
 use Rattle.model.specs.Integers.{plus, minus}
 use Rattle.model.specs.Loop.{Dep, Loop, size, depAt, DepOk}
 use Rattle.model.specs.Legality.{placed, holds, brokenAt, broken, meets}
 use Rattle.model.specs.Bounds.{resourceBound, Feasible, RecurrenceBound, Goes, Closed, delayOf, distanceOf, Heavy, Stuck, Lower, LowerIs, cyclic, beyond, within}
 use Rattle.model.proofs.Legality.{meets-each, each-meets, meets-more}
-use Rattle.model.proofs.Signed.{Is, is-pos, is-add, lt-of, of-lt, parts, holds-parts}
+use Rattle.model.proofs.Placed.{placed-in}
+use Rattle.model.proofs.Signed.{Is, is-pos, is-add, lt-of, parts, holds-parts}
 
 -- ---- starts that meet the dependences, in naturals
-
--- an operation of the list is placed
-pub placed-in : (xs : List ℕ) (o : ℕ) → o < length xs → placed xs o ≡ some (getD xs o 0)
-placed-in [] o h = absurd (not-suc-le-zero h)
-placed-in (x ∷ xs) zero h = refl
-placed-in (x ∷ xs) (suc o) h = placed-in xs o (le-of-suc-le-suc h)
 
 -- each dependence is between operations of the loop
 abbrev pub Inside : Loop → Type 0

@@ -1,20 +1,21 @@
 -- Laws of legality: by its parts, for fewer operations, for one operation more, and for a longer interval. Assumes nothing.
-use mathlib.Core.Path.{_≡_, refl, sym, ap, ap₂, _∙_, fun-ext}
+use mathlib.Core.Path.{_≡_, refl, sym, ap, ap₂, _∙_}
 use mathlib.Core.Bool.{Bool, true, false, not, cond, _&&_, _||_, and-false}
 use mathlib.Core.List.{List, [], _∷_, _++_}
 use mathlib.Core.Option.{Option, none, some}
 use Prim.Native.Nat.{ℕ, zero, suc, _+_, _*_, _≤_, _<_}
-use native.Mathlib.Nat.{le-refl, mul-le-mul-right, not-suc-le-zero, le-of-suc-le-suc}
+use native.Mathlib.Nat.{le-refl, mul-le-mul-right}
 use native.Mathlib.Decide.{ℕ-discrete, decLt}
 use native.Mathlib.Omega.{arith}
-use lib.Dec.{eqb, leb, ltb, eqb-refl}
-use lib.ListN.{length, getD, getElem?}
-use borrow.Author.Tests.{eq-eqb, ne-eqb, eqb-true, eqb-false, leb-true, le-leb, not-true, not-false}
+use lib.Dec.{eqb}
+use lib.ListN.{length, getD}
+use borrow.Author.Tests.{eq-eqb, ne-eqb, eqb-true, leb-true, le-leb, not-true, not-false}
 use Rattle.model.specs.Lists.{upFrom, pairs, any}
 use Rattle.model.specs.Integers.{plus, minus}
 use Rattle.model.specs.Loop.{Op, Dep, Loop, size, opAt, depAt, noDep}
 use Rattle.model.specs.Legality.{Placing, placed, holds, brokenAt, broken, meets, Cell, sameCell, footprint, share, conflict, selfConflict, conflictAt, selfConflictAt, pairConflict, apart, legalAt, legal, placeAt, touches, breaks, conflictsWith, fitsAt}
 use Rattle.model.proofs.Lists.{false-not, and-left, and-right, and-both, same-true, or-false-left, or-false-right, or-both, same-test, any-at, at-any, any-row, row-any, any-pairs, pairs-any}
+use Rattle.model.proofs.Placed.{placed-past, placed-snoc}
 use Rattle.model.proofs.Signed.{holds-parts}
 
 -- ---- the parts of legality
@@ -257,27 +258,6 @@ module _ (l : Loop) (ii : ℕ) (f : Placing) (o t : ℕ) (inside : o < size l) (
       (λ h. parts-legal l ii (placeAt f o t) (fits-place (legal-parts l ii f (and-left (legalAt l ii f) (fitsAt l ii f o t) h)) (fits-parts l ii f o t (and-right (legalAt l ii f) (fitsAt l ii f o t) h))))
 
 -- ---- one start more
-
-placed-past : (xs : List ℕ) → placed xs (length xs) ≡ none
-placed-past [] = refl
-placed-past (x ∷ xs) = placed-past xs
-
-placed-snoc : (xs : List ℕ) (s : ℕ) → placed (xs ++ (s ∷ [])) ≡ placeAt (placed xs) (length xs) s
-placed-snoc xs s = fun-ext (λ o. go xs o (ℕ-discrete o (length xs)) ∙ refl)
-  where
-    at-end : (xs : List ℕ) → placed (xs ++ (s ∷ [])) (length xs) ≡ some s
-    at-end [] = refl
-    at-end (x ∷ xs) = at-end xs
-
-    elsewhere : (xs : List ℕ) (o : ℕ) → (o ≡ length xs → ⊥) → placed (xs ++ (s ∷ [])) o ≡ placed xs o
-    elsewhere [] zero n = absurd (n refl)
-    elsewhere [] (suc o) n = refl
-    elsewhere (x ∷ xs) zero n = refl
-    elsewhere (x ∷ xs) (suc o) n = elsewhere xs o (λ e. n (ap suc e))
-
-    go : (xs : List ℕ) (o : ℕ) → Dec (o ≡ length xs) → placed (xs ++ (s ∷ [])) o ≡ placeAt (placed xs) (length xs) s o
-    go xs o (yes e) = rw (e, at-end xs, eq-eqb (length xs) (length xs) refl)
-    go xs o (no n) = rw (elsewhere xs o n, ne-eqb o (length xs) n)
 
 -- the whole-list test by one start more: a list is legal exactly where all but its last start are, and the last fits
 pub legal-snoc : (l : Loop) (ii : ℕ) (xs : List ℕ) (s : ℕ) → length xs < size l

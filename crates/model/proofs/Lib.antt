@@ -1,5 +1,6 @@
 -- The laws of the model that the layers cite, and the theorem of the worked cases.
 pub mod Lists
+pub mod Checks
 pub mod Firsts
 pub mod Sums
 pub mod Modular
@@ -7,6 +8,8 @@ pub mod Signed
 pub mod Machine
 pub mod Loop
 pub mod File
+pub mod Delays
+pub mod Placed
 pub mod Legality
 pub mod Table
 pub mod Conflicts

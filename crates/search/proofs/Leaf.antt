@@ -1,9 +1,9 @@
 -- The leaves of the search, joined to the model's legality: one start more in the table, whether it fits, and the rows given back. Assumes nothing.
-use mathlib.Core.Path.{_≡_, refl, sym, ap, ap₂, _∙_}
+use mathlib.Core.Path.{_≡_, sym, ap, ap₂, _∙_}
 use mathlib.Core.Bool.{Bool, true, false, not, _&&_, _||_, and-false}
 use mathlib.Core.List.{List, [], _∷_, _++_}
 use mathlib.Core.Option.{Option, none, some}
-use Prim.Native.Nat.{ℕ, zero, suc, _≤_, _<_}
+use Prim.Native.Nat.{ℕ, _≤_, _<_}
 use native.Mathlib.Decide.{ℕ-discrete}
 use native.Mathlib.Omega.{arith}
 use borrow.Author.Tests.{ne-eqb, not-true}
@@ -14,6 +14,7 @@ use Rattle.model.specs.Loop.{Op, Loop, noDep, size, opAt, OpOk, LoopOk}
 use Rattle.model.specs.Legality.{placed, Cell, sameCell, footprint, share, selfConflict, conflictAt, legal, breaks, conflictsWith, fitsAt}
 use Rattle.model.specs.Table.{countOf, opCells, cellsOf, IsTable, Digits}
 use Rattle.model.proofs.Lists.{false-not, and-left, and-right, and-both, or-false-left, or-false-right, or-both, same-test, any-at, at-any, any-row, row-any, count-append, one-sum, sum-none}
+use Rattle.model.proofs.Placed.{placed-past, placed-last, placed-others}
 use Rattle.model.proofs.Table.{table-take, table-same}
 use Rattle.model.proofs.Conflicts.{apart-cells, cells-apart, conflict-cells, cells-conflict, cellsAt, cells-sum, cells-around}
 use Rattle.model.proofs.Verifier.{legal-once}
@@ -23,25 +24,6 @@ use Rattle.reservation.proofs.Over.{uses-rest}
 use Rattle.reservation.proofs.Tables.{reserve-table, release-table}
 use Rattle.reservation.proofs.Fits.{free-self, free-apart, apart-free}
 use Rattle.search.specs.Span.{allowed}
-
--- ---- a list of starts with one more
-
--- the operation after the list is not placed
-pub placed-past : (xs : List ℕ) → placed xs (length xs) ≡ none
-placed-past [] = refl
-placed-past (x ∷ xs) = placed-past xs
-
--- one start more places it
-pub placed-last : (xs : List ℕ) (s : ℕ) → placed (xs ++ (s ∷ [])) (length xs) ≡ some s
-placed-last [] s = refl
-placed-last (x ∷ xs) s = placed-last xs s
-
--- and no other operation
-pub placed-others : (xs : List ℕ) (s o : ℕ) → (o ≡ length xs → ⊥) → placed (xs ++ (s ∷ [])) o ≡ placed xs o
-placed-others [] s zero n = absurd (n refl)
-placed-others [] s (suc o) n = refl
-placed-others (x ∷ xs) s zero n = refl
-placed-others (x ∷ xs) s (suc o) n = placed-others xs s o (λ e. n (ap suc e))
 
 -- whether an element of a list passes, by its places
 any-places : {A : Type 0} (p : A → Bool) (xs : List A) (d : A) → any p xs ≡ any (λ i. p (getD xs i d)) (upFrom 0 (length xs))

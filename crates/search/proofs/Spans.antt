@@ -1,20 +1,20 @@
 -- The starts that a dependence leaves to an operation, from the numbers that bound them. Assumes nothing.
 use mathlib.Core.Path.{_≡_, refl, sym, ap, _∙_}
 use mathlib.Core.Bool.{Bool, true, false, not, _&&_, _||_, and-true, and-assoc, or-false, Bool·not-not}
-use mathlib.Core.List.{List, [], _∷_}
+use mathlib.Core.List.{List}
 use mathlib.Core.Option.{none, some}
-use Prim.Native.Nat.{ℕ, zero, suc, _+_, _*_, _≤_, _<_}
-use native.Mathlib.Nat.{zero-add, not-suc-le-zero, le-of-suc-le-suc}
+use Prim.Native.Nat.{ℕ, _+_, _*_, _≤_, _<_}
+use native.Mathlib.Nat.{zero-add}
 use native.Mathlib.Omega.{arith}
 use lib.Dec.{leb, ltb}
 use lib.ListN.{length, getD, take}
-use lib.Seq.{length-take-le, getD-take}
+use lib.Seq.{length-take-le}
 use borrow.Author.Tests.{ltb-true, leb-true, lt-ltb, le-leb, eq-eqb, ne-eqb, not-true}
 use Rattle.model.specs.Integers.{plus, minus}
 use Rattle.model.specs.Lists.{upFrom, any}
 use Rattle.model.specs.Loop.{Dep, Loop, depAt}
 use Rattle.model.specs.Legality.{placed, holds, breaks}
-use Rattle.model.proofs.Bounds.{placed-in}
+use Rattle.model.proofs.Placed.{placed-after, placed-take}
 use Rattle.model.proofs.Lists.{and-left, and-right, and-both, same-true, upFrom-split, any-append}
 use Rattle.model.proofs.Signed.{leb-same, holds-parts}
 use Rattle.search.specs.Span.{inside, breaksAt, allowed, EarliestIs, TooLateIs, NarrowedIs, WindowIs}
@@ -33,14 +33,6 @@ narrow a b from to s q f g =
     let i = and-left (inside from to s) q h in
     let w = g (leb-true from s (and-left (leb from s) (ltb s to) i)) (ltb-true s to (and-right (leb from s) (ltb s to) i)) (and-right (inside from to s) q h) in
     and-both (leb a s) (ltb s b) (le-leb a s (w .0)) (lt-ltb s b (w .1)))
-
--- ---- the starts of the first operations
-
--- an operation after the list is not placed
-placed-after : (xs : List ℕ) (o : ℕ) → length xs ≤ o → placed xs o ≡ none
-placed-after [] o h = refl
-placed-after (x ∷ xs) zero h = absurd (not-suc-le-zero h)
-placed-after (x ∷ xs) (suc o) h = placed-after xs o (le-of-suc-le-suc h)
 
 -- whether a dependence of an operation with itself holds does not depend on its start
 holds-self : (ii : ℕ) (d : Dep) (s t : ℕ) → holds ii d s s ≡ holds ii d t t
@@ -76,7 +68,7 @@ module _ {l : Loop} {ii e op : ℕ} {starts : List ℕ} {from to x y : ℕ} (k :
 
   -- an operation before op has its start
   before : (p : ℕ) → p < op → placed (take op starts) p ≡ some (getD starts p 0)
-  before p h = placed-in (take op starts) p (rw (length-take-le op starts (k .room)) h) ∙ ap some (getD-take op starts p 0 h)
+  before p h = placed-take op starts p (k .room) h
 
   -- an operation from op on has none
   after : (p : ℕ) → op ≤ p → placed (take op starts) p ≡ none

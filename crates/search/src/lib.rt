@@ -1,9 +1,9 @@
 // The search for a schedule, and what a schedule says of each operation.
-pub mod descent;
-pub mod memory;
+mod descent;
+mod memory;
 pub mod stages;
-pub mod sweep;
-pub mod window;
+mod sweep;
+mod window;
 
 // What a part of the search comes to: every operation has a start, and so much is left of the budget; the budget is spent; there is no list, and so much is left.
 pub enum Found {

@@ -31,7 +31,7 @@ pub fn cycle(interval: usize, start: usize) -> usize
 }
 
 // The start of an operation, 0 past the list's end.
-pub fn start_of(starts: &[u16], op: usize) -> usize
+fn start_of(starts: &[u16], op: usize) -> usize
     ensures { λ r. ⌜ (r ≡ startOf (now (starts .entry)) op) × (r < 65536) ⌝ }
 {
     if op < starts.len() {
@@ -90,7 +90,7 @@ fn last_end(file: &[u8], starts: &[u16]) -> usize
 }
 
 // The stage count. Internal: asks for an accepted file and an interval in range.
-pub fn stage_count(file: &[u8], interval: usize, starts: &[u16]) -> usize
+pub(crate) fn stage_count(file: &[u8], interval: usize, starts: &[u16]) -> usize
     requires { ⌜ Accepted (now file) × (1 ≤ interval) × (interval ≤ 4096) ⌝ }
     ensures { λ r. ⌜ r ≡ stageCount (loopOf (now (file .entry))) interval (now (starts .entry)) ⌝ }
 {

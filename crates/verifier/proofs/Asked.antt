@@ -14,7 +14,8 @@ use Rattle.model.specs.Loop.{Loop, size}
 use Rattle.model.specs.File.{fileChecks, loopOf, Accepted}
 use Rattle.model.specs.Search.{outside}
 use Rattle.model.specs.Verifier.{Verdict, lateAt, proposalChecks, judge, verdict, verifyFile}
-use Rattle.model.proofs.Lists.{any-row, row-any, first-none, none-first, refusal-append, refusal-early}
+use Rattle.model.proofs.Lists.{any-row, row-any, first-none, none-first}
+use Rattle.model.proofs.Checks.{refusal-append, refusal-early}
 use Rattle.model.proofs.Firsts.{row-within}
 use Rattle.loop_file.specs.Read.{refusal}
 use Rattle.verifier.specs.Walk.{firstLate, firstBroken, firstPair, Proposal}

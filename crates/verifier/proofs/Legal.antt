@@ -15,7 +15,8 @@ use Rattle.model.specs.File.{fileChecks, loopOf, Accepted}
 use Rattle.model.specs.Legality as legality
 use Rattle.model.specs.Table.{countOf, cellsOf}
 use Rattle.model.specs.Verifier.{Verdict, legal, lateAt, proposalChecks, verdict, verifyFile}
-use Rattle.model.proofs.Lists.{or-false-left, or-false-right, any-row, none-first, passes-left, passes-right, passes-head, passes-tail, refusal-append}
+use Rattle.model.proofs.Lists.{or-false-left, or-false-right, any-row, none-first}
+use Rattle.model.proofs.Checks.{passes-left, passes-right, passes-head, passes-tail, refusal-append}
 use Rattle.model.proofs.File.{accepted-ok}
 use Rattle.model.proofs.Verifier.{verdict-legal, legal-verdict, legal-once, once-legal}
 use Rattle.verifier.specs.Walk.{Proposal}

@@ -8,13 +8,12 @@ use native.Mathlib.Decide.{ℕ-discrete, decLt}
 use native.Mathlib.Omega.{arith}
 use lib.Dec.{leb, ltb}
 use lib.ListN.{length, getD, take}
-use lib.Seq.{getD-take, length-take-le}
 use borrow.Author.Tests.{eq-eqb, ne-eqb, ltb-false, le-ltb, le-leb, lt-leb}
 use Rattle.model.specs.Lists.{upFrom, pairs, any}
 use Rattle.model.specs.Loop.{Use, Op, Loop, noUse, size, opAt, useAt, OpOk, LoopOk}
 use Rattle.model.specs.Legality.{Placing, placed, conflict, selfConflict, conflictAt, selfConflictAt, pairConflict}
 use Rattle.model.proofs.Lists.{same-test, any-at, at-any, any-row, row-any, row-some, first-none, pairs-any, pairs-first}
-use Rattle.model.proofs.Bounds.{placed-in}
+use Rattle.model.proofs.Placed.{placed-take}
 use Rattle.reservation.specs.Meeting.{coversCell, useMeets}
 use Rattle.reservation.proofs.Meeting.{two-uses}
 use Rattle.verifier.specs.Walk.{meetsAt, firstPair, Proposal}
@@ -90,15 +89,11 @@ pub hit-read : (l : Loop) (ii : ℕ) (xs : List ℕ) (a b j k : ℕ) {u : Use} {
 hit-read l ii xs a b j k e h = sym (h ∙ ap (λ (v : Use). meetsAt ii a b (opAt l b) (getD xs a 0) (getD xs b 0) v k) e)
 
 module _ (l : Loop) (ok : LoopOk l) (ii : ℕ) (xs : List ℕ) (asked : Proposal l ii xs) where
-  -- each operation is placed at its start
-  start-at : (o : ℕ) → o < size l → placed (take (size l) xs) o ≡ some (getD xs o 0)
-  start-at o h = placed-in (take (size l) xs) o (rw (length-take-le (size l) xs (asked .all)) h) ∙ ap some (getD-take (size l) xs o 0 h)
-
   -- a pair conflicts exactly where the walk over its uses and cycles says so
   clash-walk : (a b : ℕ) → a ≤ b → b < size l → clash l ii xs (a, b) ≡ walkPair ii a b (opAt l a) (opAt l b) (getD xs a 0) (getD xs b 0)
   clash-walk a b m h =
       let g : a < size l = omega arith in
-      pair-walk l ii (placed (take (size l) xs)) a b (getD xs a 0) (getD xs b 0) (asked .some) (ok .op-ok a g) (start-at a g) (start-at b h)
+      pair-walk l ii (placed (take (size l) xs)) a b (getD xs a 0) (getD xs b 0) (asked .some) (ok .op-ok a g) (placed-take (size l) xs a (asked .all) g) (placed-take (size l) xs b (asked .all) h)
 
   -- no cycle of any use does: the pair does not conflict
   pub hits-none : (a b : ℕ) → a ≤ b → b < size l

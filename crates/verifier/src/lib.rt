@@ -1,5 +1,5 @@
 // The verifier of a proposed list of starts (document 01: the judge).
-pub mod walk;
+mod walk;
 
 use loop_file::Reading;
 use reservation::Broken;

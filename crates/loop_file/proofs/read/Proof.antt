@@ -9,7 +9,8 @@ use borrow.Author.Tests.{ltb-false}
 use lib.ListN.{length}
 use Rattle.model.specs.Refusals.{Refusal, firstRefusal, Answer, answered, refused}
 use Rattle.model.specs.File.{opCount, depCount, firstUse, lengthChecks, headChecks, contentsChecks, fileChecks, readFile, Accepted}
-use Rattle.model.proofs.Lists.{passes-left, passes-head, or-false-left}
+use Rattle.model.proofs.Lists.{or-false-left}
+use Rattle.model.proofs.Checks.{passes-left, passes-head}
 use Rattle.loop_file.specs.declared.reader.Part.{Part}
 use Rattle.loop_file.specs.declared.reader.Part.the-variants.{Fine, Refused}
 use Rattle.loop_file.specs.declared.Reading.{Reading}

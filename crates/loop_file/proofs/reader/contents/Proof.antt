@@ -13,7 +13,7 @@ use borrow.Author.Needs.{needs}
 use borrow.Author.Tests.{eq-eqb, ne-eqb}
 use Rattle.model.specs.Refusals.{Check, check, firstRefusal, settle}
 use Rattle.model.specs.File.{Section, oper, uses, deps, operAt, usesAt, depsAt, endAt, lengthOf, entryChecks, contentsChecks}
-use Rattle.model.proofs.Lists.{refusal-append, refusal-early}
+use Rattle.model.proofs.Checks.{refusal-append, refusal-early}
 use Rattle.loop_file.specs.Read.{partOf, refusal}
 use Rattle.loop_file.specs.declared.reader.Part.{Part}
 use Rattle.loop_file.specs.declared.reader.Part.the-variants as part

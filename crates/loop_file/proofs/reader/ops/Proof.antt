@@ -7,7 +7,7 @@ use native.Mathlib.Omega.{arith}
 use borrow.Author.Tests.{lt-ltb, le-ltb}
 use Rattle.model.specs.Refusals.{firstRefusal}
 use Rattle.model.specs.File.{firstUse, opChecks}
-use Rattle.model.proofs.Lists.{row-next}
+use Rattle.model.proofs.Checks.{row-next}
 use Rattle.loop_file.specs.Read.{opsTable}
 use Rattle.loop_file.proofs.Tables.{row-start, refused-at, passed-all, first-use-next}
 use Rattle.loop_file.proofs.reader.ops.Statement.{statement}

@@ -1,10 +1,8 @@
 -- `deps::dep_holds` meets its contract: what it reads is in range, since the file is accepted, so 32 bits hold both sides of the inequality.
 -- Assumes nothing.
-use mathlib.Core.Path.{sym, ap, _∙_}
+use mathlib.Core.Path.{_∙_}
 use Prim.Native.Nat.{ℕ, _+_, _*_, _≤_}
-use native.Mathlib.Nat.{mul-le-mul}
 use native.Mathlib.Omega.{arith}
-use lib.Dec.{leb}
 use lib.IntN.{_+ℤ_}
 use mir.Syntax.{w32}
 use mir.Val.{toZ, ofZ}
@@ -13,8 +11,9 @@ use Rattle.model.specs.Integers.{plus, minus}
 use Rattle.model.specs.Loop.{Dep, DepOk, size, depAt}
 use Rattle.model.specs.File.{loopOf}
 use Rattle.model.proofs.File.{accepted-ok}
+use Rattle.model.proofs.Delays.{delay-late, delay-early, lag-le, holds-lag}
 use Rattle.model.proofs.Machine.{is-fits, is-cast, is-back, is-got}
-use Rattle.model.proofs.Signed.{Is, is-pos, is-negsuc, is-add, le-as, le-of, parts, holds-parts}
+use Rattle.model.proofs.Signed.{Is, is-add, le-as, parts}
 use Rattle.reservation.proofs.deps.dep_holds.Statement.{statement}
 use Rattle.reservation.proofs.deps.dep_holds.Tie as tie
 
@@ -31,11 +30,11 @@ distance-requires c κs = search needs
 abbrev lag : tie.After-distance → ℕ
 lag c = c .before .before .args .interval * c .distance .result
 
-lag-le : (c : tie.After-distance) → lag c ≤ 4096 * 15
-lag-le c = mul-le-mul {n₂ = 4096} {m₂ = 15} (c .before .before .pre .4) (omega (arith, dep-ok (c .before .before) .near))
+lag-small : (c : tie.After-distance) → lag c ≤ 4096 * 15
+lag-small c = lag-le (c .before .before .args .interval) (dep-ok (c .before .before)) (c .before .before .pre .4) (c .distance .ensures)
 
 mul-lag : tie.Need-mul-lag
-mul-lag c = omega (arith, lag-le c)
+mul-lag c = omega (arith, lag-small c)
 
 cast-due : tie.Need-cast-due
 cast-due c = search needs
@@ -53,30 +52,26 @@ due-is c = is-add (is-cast w32 (start c .args .from) (omega arith)) (is-got w32 
 
 add-due : tie.Need-add-due
 add-due c =
-    let d = dep (start c) .delay in
-    let h : plus d ≤ 64 + minus d = omega (arith, le-of (parts d) (is-pos 64) (dep-ok (start c) .late)) in
-    let k : minus d ≤ 64 + plus d = omega (arith, le-of (is-negsuc 63) (parts d) (dep-ok (start c) .early)) in
-    is-fits w32 (due-is c) (omega arith) (omega arith)
+    is-fits w32 (due-is c) (omega (arith, delay-late (dep-ok (start c)))) (omega (arith, delay-early (dep-ok (start c))))
 
 cast-result : tie.Need-cast-result
 cast-result c = search needs
 
 cast-result-2 : tie.Need-cast-result-2
-cast-result-2 c = omega (arith, lag-le (c .before))
+cast-result-2 c = omega (arith, lag-small (c .before))
 
 to-is : (c : tie.After-delay) → Is (toZ w32 (start c .args .to) +ℤ toZ w32 (lag (c .before))) (start c .args .to + lag (c .before)) (0 + 0)
-to-is c = is-add (is-cast w32 (start c .args .to) (omega arith)) (is-cast w32 (lag (c .before)) (omega (arith, lag-le (c .before))))
+to-is c = is-add (is-cast w32 (start c .args .to) (omega arith)) (is-cast w32 (lag (c .before)) (omega (arith, lag-small (c .before))))
 
 add-result : tie.Need-add-result
-add-result c = is-fits w32 (to-is c) (omega (arith, lag-le (c .before))) (omega arith)
+add-result c = is-fits w32 (to-is c) (omega (arith, lag-small (c .before))) (omega arith)
 
 returns : tie.Need-returns
 returns c =
     let a = start c .args in
     let d = dep (start c) .delay in
     le-as (a .from + plus d) (a .to + lag (c .before) + minus d) (is-back w32 (add-due c) (due-is c)) (is-back w32 (add-result c) (to-is c)) (omega arith)
-    ∙ ap (λ (x : ℕ). leb (a .from + plus d) (a .to + a .interval * x + minus d)) (c .before .distance .ensures)
-    ∙ sym (holds-parts (a .interval) (dep (start c)) (a .from) (a .to))
+    ∙ holds-lag (a .interval) (dep (start c)) (a .from) (a .to) (c .before .distance .ensures)
 
 pub dep-holds-spec : {M : Type 1} → statement M
 dep-holds-spec =

@@ -13,7 +13,8 @@ use Rattle.model.specs.File.{loopOf}
 use Rattle.model.proofs.File.{accepted-ok}
 use Rattle.model.proofs.Machine.{is-fits, is-cast, is-back, is-got}
 use Rattle.model.proofs.Signed.{Is, is-add, is-subtract, leb-same, parts}
-use Rattle.search.proofs.Differences.{below-zero, cast-is, cast-fits, delay-late, delay-early, lag-le, holds-lag}
+use Rattle.model.proofs.Delays.{delay-late, delay-early, lag-le, holds-lag}
+use Rattle.search.proofs.Differences.{below-zero, cast-is, cast-fits}
 use Rattle.search.proofs.window.too_late.Statement.{statement}
 use Rattle.search.proofs.window.too_late.Tie as tie
 

@@ -1,20 +1,18 @@
 -- `walk::first_broken` meets its contract. The invariant: no dependence passed is broken. Assumes nothing.
-use mathlib.Core.Path.{_≡_, refl, sym, ap, ap₂, _∙_}
-use mathlib.Core.Bool.{Bool, true, false, not}
+use mathlib.Core.Path.{_≡_, sym, ap, ap₂, _∙_}
+use mathlib.Core.Bool.{Bool, false, not}
 use mathlib.Core.List.{List}
-use mathlib.Core.Option.{Option, some}
 use Prim.Native.Nat.{ℕ, _-_, _≤_, _<_}
 use native.Mathlib.Omega.{arith}
 use lib.ListN.{length, getD, take}
-use lib.Seq.{getD-take, length-take-le}
-use Rattle.model.specs.Lists.{upFrom, first}
-use Rattle.model.specs.Loop.{Dep, Loop, size, depAt, LoopOk}
-use Rattle.model.specs.File.{loopOf, Accepted}
+use Rattle.model.specs.Lists.{upFrom}
+use Rattle.model.specs.Loop.{Loop, size, depAt, LoopOk}
+use Rattle.model.specs.File.{loopOf}
 use Rattle.model.specs.Legality.{placed, holds, brokenAt, broken}
 use Rattle.model.proofs.Lists.{below-next, row-first, row-any, first-none}
 use Rattle.model.proofs.File.{accepted-ok}
-use Rattle.model.proofs.Bounds.{placed-in}
-use Rattle.verifier.specs.Walk.{firstBroken, Proposal}
+use Rattle.model.proofs.Placed.{placed-take}
+use Rattle.verifier.specs.Walk.{firstBroken}
 use Rattle.verifier.proofs.walk.first_broken.Statement.{statement}
 use Rattle.verifier.proofs.walk.first_broken.Tie as tie
 
@@ -25,10 +23,8 @@ test l ii xs e = broken ii (placed (take (size l) xs)) (depAt l e)
 -- it is whether the dependence does not hold with the two starts
 test-holds : (l : Loop) (ii : ℕ) (xs : List ℕ) (e : ℕ) → LoopOk l → size l ≤ length xs → e < length (l .deps)
     → test l ii xs e ≡ not (holds ii (depAt l e) (getD xs (depAt l e .src) 0) (getD xs (depAt l e .dst) 0))
-test-holds l ii xs e ok long m = ap₂ (brokenAt ii (depAt l e)) (at (depAt l e .src) (ok .dep-ok e m .source)) (at (depAt l e .dst) (ok .dep-ok e m .target))
-  where
-    at : (o : ℕ) → o < size l → placed (take (size l) xs) o ≡ some (getD xs o 0)
-    at o h = placed-in (take (size l) xs) o (rw (length-take-le (size l) xs long) h) ∙ ap (λ (x : ℕ). some x) (getD-take (size l) xs o 0 h)
+test-holds l ii xs e ok long m =
+    ap₂ (brokenAt ii (depAt l e)) (placed-take (size l) xs (depAt l e .src) long (ok .dep-ok e m .source)) (placed-take (size l) xs (depAt l e .dst) long (ok .dep-ok e m .target))
 
 abbrev Inv-loop : tie.InvT-loop
 Inv-loop file interval starts m e₀ e = (e ≤ length (loopOf file .deps)) × ((k : ℕ) → k < e → test (loopOf file) interval starts k ≡ false)

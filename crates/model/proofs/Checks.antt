@@ -1,0 +1,88 @@
+-- Laws of tables of checks: the first refusal of tables one after the other, and of a table over a row of numbers. Assumes nothing.
+use mathlib.Core.Path.{_≡_, refl, sym, ap, _∙_}
+use mathlib.Core.Bool.{Bool, true, false, cond}
+use mathlib.Core.List.{List, [], _∷_, _++_, flatMap}
+use mathlib.Core.Logic.{_⊎_, inl, inr}
+use mathlib.Core.Option.{none, some}
+use Prim.Native.Nat.{ℕ, zero, suc, _+_, _-_, _≤_, _<_}
+use native.Mathlib.Nat.{eq-or-lt-of-le}
+use native.Mathlib.Omega.{arith}
+use Rattle.model.specs.Lists.{upFrom}
+use Rattle.model.specs.Refusals.{Refusal, Check, firstRefusal}
+use Rattle.model.proofs.Lists.{upFrom-split, flatMap-append, flat-next}
+
+-- ---- tables of checks
+
+-- the first refusal of two tables, one after the other
+pub refusal-append : (cs ds : List Check) → firstRefusal cs ≡ none → firstRefusal (cs ++ ds) ≡ firstRefusal ds
+unfolding firstRefusal
+refusal-append [] ds e = refl
+refusal-append (c ∷ cs) ds e = pick (c .fails) e (refusal-append cs ds)
+  where
+    pick : (b : Bool) → cond b (some (c .gives)) (firstRefusal cs) ≡ none → (firstRefusal cs ≡ none → firstRefusal (cs ++ ds) ≡ firstRefusal ds)
+        → cond b (some (c .gives)) (firstRefusal (cs ++ ds)) ≡ firstRefusal ds
+    pick true q ih = let z : _≡_ {A = ℕ} 0 1 = cc in absurd (omega arith)
+    pick false q ih = ih q
+
+pub refusal-early : (cs ds : List Check) (r : Refusal) → firstRefusal cs ≡ some r → firstRefusal (cs ++ ds) ≡ some r
+unfolding firstRefusal
+refusal-early [] ds r e = let z : _≡_ {A = ℕ} 0 1 = cc in absurd (omega arith)
+refusal-early (c ∷ cs) ds r e = pick (c .fails) e (refusal-early cs ds r)
+  where
+    pick : (b : Bool) → cond b (some (c .gives)) (firstRefusal cs) ≡ some r → (firstRefusal cs ≡ some r → firstRefusal (cs ++ ds) ≡ some r)
+        → cond b (some (c .gives)) (firstRefusal (cs ++ ds)) ≡ some r
+    pick true q ih = q
+    pick false q ih = ih q
+
+-- what passes two tables passes each
+pub passes-left : (cs ds : List Check) → firstRefusal (cs ++ ds) ≡ none → firstRefusal cs ≡ none
+unfolding firstRefusal
+passes-left [] ds e = refl
+passes-left (c ∷ cs) ds e = pick (c .fails) e (passes-left cs ds)
+  where
+    pick : (b : Bool) → cond b (some (c .gives)) (firstRefusal (cs ++ ds)) ≡ none → (firstRefusal (cs ++ ds) ≡ none → firstRefusal cs ≡ none)
+        → cond b (some (c .gives)) (firstRefusal cs) ≡ none
+    pick true q ih = q
+    pick false q ih = ih q
+
+pub passes-right : (cs ds : List Check) → firstRefusal (cs ++ ds) ≡ none → firstRefusal ds ≡ none
+passes-right cs ds e = sym (refusal-append cs ds (passes-left cs ds e)) ∙ e
+
+-- the first check of a table that is passed, and the others
+pub passes-head : (c : Check) (cs : List Check) → firstRefusal (c ∷ cs) ≡ none → c .fails ≡ false
+unfolding firstRefusal
+passes-head c cs e = pick (c .fails) e
+  where
+    pick : (b : Bool) → cond b (some (c .gives)) (firstRefusal cs) ≡ none → b ≡ false
+    pick true q = let z : _≡_ {A = ℕ} 0 1 = cc in absurd (omega arith)
+    pick false q = refl
+
+pub passes-tail : (c : Check) (cs : List Check) → firstRefusal (c ∷ cs) ≡ none → firstRefusal cs ≡ none
+passes-tail c cs e = passes-right (c ∷ []) cs e
+
+-- what passes the tables of a row passes each of them
+pub passes-each : (t : ℕ → List Check) (a n k : ℕ) → firstRefusal (flatMap t (upFrom a n)) ≡ none → a ≤ k → k < a + n → firstRefusal (t k) ≡ none
+unfolding flatMap upFrom
+passes-each t a zero k e l m = absurd (omega arith)
+passes-each t a (suc n) k e l m = pick (eq-or-lt-of-le l) (passes-each t (suc a) n k (passes-right (t a) (flatMap t (upFrom (suc a) n)) e))
+  where
+    pick : (a ≡ k) ⊎ (a < k) → (suc a ≤ k → k < suc a + n → firstRefusal (t k) ≡ none) → firstRefusal (t k) ≡ none
+    pick (inl q) ih = ap (λ (x : ℕ). firstRefusal (t x)) (sym q) ∙ passes-left (t a) (flatMap t (upFrom (suc a) n)) e
+    pick (inr q) ih = ih q (omega arith)
+
+-- ---- tables of checks over a row, one number after the other
+
+-- what passes the tables of a row and the next table passes the row with that one
+pub row-next : (t : ℕ → List Check) (n : ℕ) → firstRefusal (flatMap t (upFrom 0 n)) ≡ none → firstRefusal (t n) ≡ none → firstRefusal (flatMap t (upFrom 0 (n + 1))) ≡ none
+row-next t n p q = rw (flat-next t n, refusal-append (flatMap t (upFrom 0 n)) (t n) p) q
+
+-- the first refusal of a row is that of the first table that is not passed
+pub row-refused : (t : ℕ → List Check) (k n : ℕ) (r : Refusal) → k < n → firstRefusal (flatMap t (upFrom 0 k)) ≡ none → firstRefusal (t k) ≡ some r
+    → firstRefusal (flatMap t (upFrom 0 n)) ≡ some r
+row-refused t k n r l p q =
+    let e : n ≡ k + 1 + (n - (k + 1)) = omega arith in
+    ap (λ (m : ℕ). firstRefusal (flatMap t (upFrom 0 m))) e
+    ∙ ap (λ (xs : List ℕ). firstRefusal (flatMap t xs)) (upFrom-split 0 (k + 1) (n - (k + 1)))
+    ∙ ap firstRefusal (flatMap-append t (upFrom 0 (k + 1)) (upFrom (0 + (k + 1)) (n - (k + 1))))
+    ∙ refusal-early (flatMap t (upFrom 0 (k + 1))) (flatMap t (upFrom (0 + (k + 1)) (n - (k + 1)))) r
+    (rw (flat-next t k, refusal-append (flatMap t (upFrom 0 k)) (t k) p) q)
