@@ -14,15 +14,10 @@ use Rattle.model.specs.Lists.{upFrom, any, first, count, sumOf}
 use Rattle.model.specs.Search.{words, whole, answer, reached, tried, probes}
 use Rattle.model.proofs.Lists.{any-map, at-any, first-later, first-none, none-first, count-append, count-flatMap, count-none, sum-none}
 use Rattle.model.proofs.Firsts.{first-early, first-map}
-use Rattle.search.proofs.Words.{count-map}
+use Rattle.search.proofs.Words.{count-map, words-over}
 use Rattle.search.specs.Tree.{under, tree, over, treeAnswer, treeProbes, overAnswer, overProbes, Res, broke, all, no-more, rest, resOf, run, runO}
 
 -- ---- the lists that begin with s, then the others
-
--- the lists of m + 1 numbers at most, by the number that they begin with
-words-over : (h m : ℕ) → words h (suc m) ≡ over h m 0 h
-unfolding words over tree
-words-over h m = refl
 
 -- the first number apart from the others
 over-cons : (h m s k : ℕ) → over h m s (suc k) ≡ map (s ∷_) (tree h m) ++ over h m (suc s) k

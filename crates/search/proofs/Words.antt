@@ -13,6 +13,7 @@ use lib.ListN.{length, getD}
 use borrow.Author.Tests.{eqb-true, eq-eqb, ne-eqb, lt-ltb}
 use Rattle.model.specs.Lists.{upFrom, any, first, count, sumOf}
 use Rattle.model.specs.Search.{words, whole, answer, notAfter}
+use Rattle.search.specs.Tree.{tree, over}
 use Rattle.model.proofs.Lists.{and-left, and-right, and-both, or-false-left, or-false-right, any-map, first-later, none-first, count-flatMap, sum-none, sum-around, sum-some}
 use Rattle.model.proofs.Firsts.{first-early, first-map}
 
@@ -101,22 +102,14 @@ counted-fails p (x ∷ xs) b l e = pick (sameList b x) refl l (counted-fails p x
 
 -- ---- words by their first number
 
--- what may stand behind a first number: nothing, or a word
-abbrev tree : ℕ → ℕ → List (List ℕ)
-tree h n = [] ∷ words h n
-
 -- the words that begin with s
 abbrev branch : ℕ → ℕ → ℕ → List (List ℕ)
 branch h n s = map (s ∷_) (tree h n)
 
--- the words that begin with s, s + 1, ..: k numbers
-abbrev branches : ℕ → ℕ → ℕ → ℕ → List (List ℕ)
-branches h n s k = flatMap (branch h n) (upFrom s k)
-
 -- all words begin with a number below h
-words-suc : (h n : ℕ) → words h (suc n) ≡ branches h n 0 h
-unfolding words
-words-suc h n = refl
+pub words-over : (h n : ℕ) → words h (suc n) ≡ over h n 0 h
+unfolding words over tree
+words-over h n = refl
 
 -- how often q is among the words that begin with s
 abbrev share : ℕ → ℕ → List ℕ → ℕ → ℕ
@@ -124,7 +117,8 @@ share h n q s = count (sameList q) (branch h n s)
 
 -- a list is among the words as often as among all branches together
 words-sum : (h n : ℕ) (q : List ℕ) → count (sameList q) (words h (suc n)) ≡ sumOf (share h n q) (upFrom 0 h)
-words-sum h n q = ap (count (sameList q)) (words-suc h n) ∙ count-flatMap (sameList q) (branch h n) (upFrom 0 h)
+unfolding over
+words-sum h n q = ap (count (sameList q)) (words-over h n) ∙ count-flatMap (sameList q) (branch h n) (upFrom 0 h)
 
 -- the empty list is in no branch, a list that begins otherwise not in this one, and one that begins with x as often as its rest is behind x
 share-empty : (h n s : ℕ) → share h n [] s ≡ 0
@@ -148,7 +142,7 @@ Word h n q = (1 ≤ length q) × (length q ≤ n) × Below h q
 
 -- a number in front of nothing or of a word
 word-cons : (h n s : ℕ) (q : List ℕ) → s < h → 1 ≤ count (sameList q) (tree h n) → (1 ≤ count (sameList q) (words h n) → Word h n q) → Word h (suc n) (s ∷ q)
-unfolding count
+unfolding count tree
 word-cons h n s [] l c ih = (omega arith, omega arith, below-cons h s [] l (λ i m. absurd (omega arith)))
 word-cons h n s (x ∷ q) l c ih = let w = ih (omega arith) in (omega arith, omega (arith, w .1), below-cons h s (x ∷ q) l (w .2))
 
@@ -180,7 +174,7 @@ words-empty h n = pick (ℕ-discrete (count (sameList []) (words h n)) 0)
 
 -- a list is once in the branch of its first number
 share-one : (h n x : ℕ) (q : List ℕ) → (1 ≤ length q → count (sameList q) (words h n) ≡ 1) → share h n (x ∷ q) x ≡ 1
-unfolding count
+unfolding count tree
 share-one h n x [] ih = omega (arith, share-own h n x [], words-empty h n)
 share-one h n x (y ∷ q) ih = omega (arith, share-own h n x (y ∷ q), ih (omega arith))
 
@@ -208,7 +202,7 @@ words-none p h n b e w = counted-fails p (words h n) b (omega (arith, words-coun
 
 -- the same where the empty list stands before the words
 tree-none : (p : List ℕ → Bool) (h n : ℕ) (b : List ℕ) → any p (tree h n) ≡ false → length b ≤ n → Below h b → p b ≡ false
-unfolding any
+unfolding any tree
 tree-none p h n [] e l w = or-false-left (p []) (any p (words h n)) e
 tree-none p h n (x ∷ b) e l w = words-none p h n (x ∷ b) (or-false-right (p []) (any p (words h n)) e) (omega arith, l, w)
 
@@ -218,7 +212,7 @@ Ordered h n = (p : List ℕ → Bool) (a b : List ℕ) → first p (words h n) �
 
 -- the same where the empty list stands before the words
 tree-first : (p : List ℕ → Bool) (h n : ℕ) (a b : List ℕ) → Ordered h n → first p (tree h n) ≡ some a → length b ≤ n → Below h b → p b ≡ true → notAfter a b ≡ true
-unfolding first
+unfolding first tree
 tree-first p h n a b ord e l w t = pick (p []) refl e
   where
     longer : (c : List ℕ) → p [] ≡ false → p c ≡ true → 1 ≤ length c
@@ -255,15 +249,15 @@ branch-none p h n s x b e (inl q) l w t =
 branch-none p h n s x b e (inr q) l w t = q
 
 -- found in one of the branches
-branches-first : (p : List ℕ → Bool) (h n s k : ℕ) (a : List ℕ) (x : ℕ) (b : List ℕ) → Ordered h n → first p (branches h n s k) ≡ some a → s ≤ x → x < s + k
+over-first : (p : List ℕ → Bool) (h n s k : ℕ) (a : List ℕ) (x : ℕ) (b : List ℕ) → Ordered h n → first p (over h n s k) ≡ some a → s ≤ x → x < s + k
     → length b ≤ n → Below h b → p (x ∷ b) ≡ true → notAfter a (x ∷ b) ≡ true
-unfolding first upFrom flatMap
-branches-first p h n s zero a x b ord e i j l w t = absurd (omega arith)
-branches-first p h n s (suc k) a x b ord e i j l w t =
-    pick (first (λ v. p (s ∷ v)) (tree h n)) refl (λ f m. branches-first p h n (suc s) k a x b ord f m (omega arith) l w t)
+unfolding first upFrom flatMap over tree
+over-first p h n s zero a x b ord e i j l w t = absurd (omega arith)
+over-first p h n s (suc k) a x b ord e i j l w t =
+    pick (first (λ v. p (s ∷ v)) (tree h n)) refl (λ f m. over-first p h n (suc s) k a x b ord f m (omega arith) l w t)
   where
     later : List (List ℕ)
-    later = branches h n (suc s) k
+    later = over h n (suc s) k
 
     pick : (o : Option (List ℕ)) → first (λ v. p (s ∷ v)) (tree h n) ≡ o → (first p later ≡ some a → s < x → notAfter a (x ∷ b) ≡ true) → notAfter a (x ∷ b) ≡ true
     pick (some c) q ih =
@@ -276,11 +270,11 @@ branches-first p h n s (suc k) a x b ord e i j l w t =
 
 -- the words stand in dictionary order
 pub words-first : (h n : ℕ) → Ordered h n
-unfolding words first
+unfolding words first over tree
 words-first h zero p a b e w t = absurd (omega arith)
 words-first h (suc n) p a [] e w t = absurd (omega arith)
 words-first h (suc n) p a (x ∷ b) e w t =
-    branches-first p h n 0 h a x b (words-first h n) e (omega arith) (omega (arith, w .2 0 (omega arith))) (omega arith) (below-tail h x b (w .2)) t
+    over-first p h n 0 h a x b (words-first h n) e (omega arith) (omega (arith, w .2 0 (omega arith))) (omega arith) (below-tail h x b (w .2)) t
 
 -- ---- the answer
 
