@@ -1,5 +1,5 @@
 -- Laws of sums and of largest numbers. Assumes nothing.
-use mathlib.Core.Path.{_≡_, refl, sym, ap, _∙_}
+use mathlib.Core.Path.{_≡_, refl, sym, ap, ap₂, _∙_}
 use mathlib.Core.List.{List, [], _∷_, _++_, flatMap}
 use Prim.Native.Nat.{ℕ, zero, suc, _+_, _*_, _≤_, _<_, max}
 use native.Mathlib.Omega.{arith}
@@ -50,3 +50,9 @@ pub max-most : (f : ℕ → ℕ) (b : ℕ) (xs : List ℕ) → ((x : ℕ) → f 
 unfolding maxOf
 max-most f b [] h = omega arith
 max-most f b (x ∷ xs) h = omega (arith, h x, max-most f b xs h)
+
+-- two rows that agree number by number have the same largest
+pub max-same : (f g : ℕ → ℕ) (a n : ℕ) → ((k : ℕ) → a ≤ k → k < a + n → f k ≡ g k) → maxOf f (upFrom a n) ≡ maxOf g (upFrom a n)
+unfolding maxOf upFrom
+max-same f g a zero h = refl
+max-same f g a (suc n) h = ap₂ max (h a (omega arith) (omega arith)) (max-same f g (suc a) n (λ k l m. h k (omega arith) (omega arith)))

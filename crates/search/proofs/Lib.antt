@@ -6,5 +6,7 @@ pub mod Turns
 pub mod Differences
 pub mod Spans
 pub mod Leaf
+pub mod Requests
 pub mod Steps
 pub mod Tops
+pub mod Attempts

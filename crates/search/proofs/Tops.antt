@@ -14,13 +14,13 @@ use Rattle.model.specs.File.{loopOf}
 use Rattle.model.specs.Legality.{placed, legal}
 use Rattle.model.specs.Table.{opCells, cellsOf}
 use Rattle.model.specs.Bounds.{Lower}
-use Rattle.model.specs.Search.{answer, probes, stageCount, Request, Outcome, found, ended, tryInterval, sweep}
+use Rattle.model.specs.Search.{answer, probes, Request, Outcome, ended, tryInterval, sweep}
 use Rattle.model.proofs.File.{accepted-ok}
 use Rattle.model.proofs.Legality.{legal-nil}
 use Rattle.model.proofs.Table.{table-nil}
 use Rattle.search.specs.Tree.{resOf, run}
 use Rattle.search.specs.Descent.{tell, Wrote, Ready, Done, below}
-use Rattle.search.specs.Sweep.{Clear, SweptIs}
+use Rattle.search.specs.Sweep.{Clear, outcomeOf, SweptIs, Ranged}
 use Rattle.search.specs.declared.Found.{Found}
 use Rattle.search.specs.declared.Found.the-variants.{All, Spent, Nothing}
 use Rattle.search.specs.declared.Swept.the-variants as swept
@@ -71,7 +71,7 @@ module _ (l : Loop) (q : Request) (b : Lower) (ii left k : ℕ) (later : ℕ →
 
   -- a list is found
   step-all : (o : Option (List ℕ)) → Dec (left < k) → (n lft : ℕ) (starts : List ℕ) → tell (resOf left o k) ≡ All lft → Wrote n [] starts (resOf left o k)
-      → step o ≡ found (record { ii = ii; bounds = b; stages = stageCount l ii (take n starts); count = q .budget - lft; starts = take n starts })
+      → (lft ≤ left) × (step o ≡ outcomeOf l q b n starts (swept.Found ii lft))
   step-all o (yes m) n lft starts e w =
       let t : tell (resOf left o k) ≡ Spent = rw (lt-ltb left k m) in
       let z : _≡_ {A = ℕ} 0 1 = cc in
@@ -85,7 +85,7 @@ module _ (l : Loop) (q : Request) (b : Lower) (ii left k : ℕ) (later : ℕ →
       let z : left - k ≡ lft = cc in
       let y : q .budget - left + k ≡ q .budget - lft = omega arith in
       let v : take n starts ≡ a = rw (le-ltb left k (omega arith)) at w in
-      rw (le-ltb (q .budget) (q .budget - left + k) (omega arith), y, v)
+      (omega arith, rw (le-ltb (q .budget) (q .budget - left + k) (omega arith), y, v))
 
   -- there is none
   step-none : (o : Option (List ℕ)) → Dec (left < k) → (lft : ℕ) → tell (resOf left o k) ≡ Nothing lft → (lft ≤ left) × (step o ≡ later (q .budget - lft))
@@ -180,12 +180,14 @@ module _ {f starts₀ rows₀ : List ℕ} {n least cap h budget : ℕ} (clear : 
       comes-to b = ap (sweep (loopOf f) (asking cap h budget) b (budget - left)) (sym (up-cons ii cap m)) ∙ pass .to-come b
 
       module _ {later : List ℕ} {r : Found} (done : Done (below f starts 0 n ii h left) n 0 (take 0 starts) starts later r) where
-        -- a list is found
-        pub finds : (k : ℕ) → r ≡ All k → SweptIs f n least cap h budget later (swept.Found ii k)
-        finds k e b =
+        -- a list is found, at one of the intervals, with no more left than there was
+        pub finds : (k : ℕ) → r ≡ All k → SweptIs f n least cap h budget later (swept.Found ii k) × Ranged least cap budget (swept.Found ii k)
+        finds k e =
+            let t : tell (resOf left has taken) ≡ All k = ap tell (sym is-res) ∙ sym (done .says) ∙ e in
             let w : Wrote n [] later (resOf left has taken) = rw is-res at (done .list) in
-            sym (step-all (loopOf f) (asking cap h budget) b ii left taken (onward b) (pass .paid) has (decLt left taken) n k later (ap tell (sym is-res) ∙ sym (done .says) ∙ e) w)
-            ∙ comes-to b
+            let x : (b : Lower) → (k ≤ left) × (step (loopOf f) (asking cap h budget) b ii left taken (onward b) (pass .paid) has ≡ outcomeOf (loopOf f) (asking cap h budget) b n later (swept.Found ii k)) =
+            λ b. step-all (loopOf f) (asking cap h budget) b ii left taken (onward b) (pass .paid) has (decLt left taken) n k later t w in
+            (λ b. sym (x b .1) ∙ comes-to b, (pass .from-least, m, omega (arith, pass .paid, x (record { resource = 0; recurrence = 0 }) .0)))
 
         -- the budget is spent
         pub stops : r ≡ Spent → SweptIs f n least cap h budget later (swept.Spent ii)

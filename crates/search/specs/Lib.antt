@@ -1,4 +1,6 @@
+pub mod Answer
 pub mod Descent
+pub mod Request
 pub mod Span
 pub mod Stages
 pub mod Sweep

@@ -3,7 +3,7 @@ use crate::Found;
 use crate::Swept;
 use crate::descent::choose;
 ghost use mathlib.Core.Path.{_≡_};
-ghost use Rattle.search.specs.Sweep.{Clear, SweptIs};
+ghost use Rattle.search.specs.Sweep.{Clear, SweptIs, Ranged};
 
 // The intervals from `least` to the cap in turn, with one budget for all.
 pub fn sweep(
@@ -19,6 +19,7 @@ pub fn sweep(
     requires { ⌜ Clear (now file) (now starts) (now rows) n least cap horizon ⌝ }
     ensures done { λ r. ⌜ SweptIs (now (file .entry)) n least cap horizon budget (now (starts .exit)) r ⌝ }
     ensures same { λ r. ⌜ now (rows .exit) ≡ now (rows .entry) ⌝ }
+    ensures ranged { λ r. ⌜ Ranged least cap budget r ⌝ }
 {
     let mut left = budget;
     let mut ii = least;

@@ -1,15 +1,12 @@
 -- `bounds` meets its contract: the reader's refusal, or the bounds of the accepted file's loop. Assumes nothing.
-use mathlib.Core.Path.{_≡_, refl, sym, ap, ap₂, _∙_}
+use mathlib.Core.Path.{sym, ap, _∙_}
 use mathlib.Core.List.{List}
-use Prim.Native.Nat.{ℕ, _≤_}
-use native.Mathlib.Omega.{arith}
+use Prim.Native.Nat.{ℕ}
 use borrow.Author.Needs.{needs}
-use Rattle.model.specs.Refusals.{Answer, answered, refused}
 use Rattle.model.specs.File.{Accepted, loopOf}
-use Rattle.model.specs.Bounds.{Lower, BoundsIs, by-file, by-loop, LowerIs, cyclic, within, resourceBound}
+use Rattle.model.specs.Bounds.{by-file, by-loop}
 use Rattle.loop_file.specs.Read.{readingOf}
 use Rattle.loop_file.proofs.Answers.{read-accepted, read-refused}
-use Rattle.bounds.specs.Walks.{RecurrenceIs}
 use Rattle.bounds.specs.Answer.{boundsOf, asBounds}
 use Rattle.bounds.proofs.bounds.Statement.{statement}
 use Rattle.bounds.proofs.bounds.Tie as tie
@@ -40,32 +37,11 @@ file c = c .before .before .before .before .args .file .now
 accepted : (c : tie.After-enum-told) → Accepted (file c)
 accepted c = read-accepted (file c) _ _ _ (sym (ap readingOf (c .enum-told .given .1)) ∙ c .before .before .read .ensures) .file
 
-recurrence-requires : tie.Need-recurrence-requires
-recurrence-requires c κs = accepted c
+lower-requires : tie.Need-lower-requires
+lower-requires c κs = accepted c
 
 returns-2 : tie.Need-returns-2
-returns-2 c = by-loop (accepted (c .before .before)) (cyclic (c .before .recurrence .ensures .stuck (c .if1 .taken)) refl)
-
-resource-requires : tie.Need-resource-requires
-resource-requires c κs = accepted (c .before .before)
-
-returns-3 : tie.Need-returns-3
-returns-3 c =
-    let k = c .before .before in
-    let q = k .recurrence .ensures in
-    by-loop (accepted (k .before))
-    (within (k .recurrence .result) (q .bound (omega (arith, c .before .if1 .left))) (q .within) (ap (λ (r : ℕ). answered (record { resource = r; recurrence = k .recurrence .result })) (c .resource .ensures)))
+returns-2 c = by-loop (accepted (c .before)) (c .lower .ensures)
 
 pub bounds-spec : {M : Type 1} → statement M
-bounds-spec =
-    tie.close
-    (tie.spec
-    read-requires
-    enum-told
-    enum-told-2
-    passed-on-requires
-    returns
-    recurrence-requires
-    returns-2
-    resource-requires
-    returns-3)
+bounds-spec = tie.close (tie.spec read-requires enum-told enum-told-2 passed-on-requires returns lower-requires returns-2)

@@ -42,7 +42,8 @@ same-length-2 c = ap (λ (l : List ℕ). length l) (rows-kept (c .before .before
 
 returns : tie.Need-returns Inv-loop μ-loop
 returns c = let w = c .before .before .before .before .before .before .before in
-    (finds (entry w .pre) (w .before .before .before .before .loop .inv) (w .before .before .before .loop-test .taken) (w .choose .ensures .0) _ (c .before .f .given .1), rows-kept w)
+    let g = finds (entry w .pre) (w .before .before .before .before .loop .inv) (w .before .before .before .loop-test .taken) (w .choose .ensures .0) _ (c .before .f .given .1) in
+    (g .0, (rows-kept w, g .1))
 
 enum-told : tie.Need-enum-told Inv-loop μ-loop
 enum-told c = c .match .keys2
@@ -55,7 +56,7 @@ same-length-4 c = ap (λ (l : List ℕ). length l) (rows-kept (c .before .before
 
 returns-2 : tie.Need-returns-2 Inv-loop μ-loop
 returns-2 c = let w = c .before .before .before .before .before .before in
-    (stops (entry w .pre) (w .before .before .before .before .loop .inv) (w .before .before .before .loop-test .taken) (w .choose .ensures .0) (c .enum-told .given .1), rows-kept w)
+    (stops (entry w .pre) (w .before .before .before .before .loop .inv) (w .before .before .before .loop-test .taken) (w .choose .ensures .0) (c .enum-told .given .1), (rows-kept w, tt))
 
 enum-known-f-2 : tie.Need-enum-known-f-2 Inv-loop μ-loop
 enum-known-f-2 c = c .match .keys3
@@ -77,7 +78,7 @@ same-length-6 : tie.Need-same-length-6 Inv-loop μ-loop
 same-length-6 c = ap (λ (l : List ℕ). length l) (c .before .loop .inv .rows-same)
 
 returns-3 : tie.Need-returns-3 Inv-loop μ-loop
-returns-3 c = (ends (c .before .before .before .before .before .pre) (c .before .loop .inv) (c .loop-test .left), c .before .loop .inv .rows-same)
+returns-3 c = (ends (c .before .before .before .before .before .pre) (c .before .loop .inv) (c .loop-test .left), (c .before .loop .inv .rows-same, c .before .loop .inv .paid))
 
 pub sweep-spec : {M : Type 1} → statement M
 sweep-spec =

@@ -1,0 +1,127 @@
+-- What the search of a file that has passed every check uses: the table that is cleared before the sweep, and the answer at each end of it. Assumes nothing.
+use mathlib.Core.Path.{_≡_, refl, sym, ap, ap₂, _∙_}
+use mathlib.Core.List.{List, _++_}
+use Prim.Native.Nat.{ℕ, suc, _+_, _-_, _≤_, _<_, max}
+use native.Mathlib.Omega.{arith}
+use lib.ListN.{length, getD, take, drop, replicate, length-replicate, getD-replicate, List·getD-append}
+use lib.Seq.{getD-take, length-take-le, length-front, take-at}
+use Rattle.model.specs.Lists.{upFrom}
+use Rattle.model.specs.Refusals.{answered}
+use Rattle.model.specs.Loop.{Loop, size, opAt}
+use Rattle.model.specs.File.{loopOf, Accepted}
+use Rattle.model.specs.Bounds.{Lower}
+use Rattle.model.specs.Search.{startOf, lastEnd, stageCount, ceilDiv, Request, found, intervals, sweep}
+use Rattle.model.proofs.File.{accepted-ok}
+use Rattle.model.proofs.Sums.{max-same}
+use Rattle.search.specs.Sweep.{Clear, outcomeOf, SweptIs, Ranged}
+use Rattle.search.specs.Answer.{Passed, Attempted}
+use Rattle.search.specs.declared.Swept.{Swept}
+use Rattle.search.specs.declared.Swept.the-variants as swept
+use Rattle.search.specs.declared.Searched.the-variants as searched
+
+-- ---- the table
+
+-- a row that is cleared is 0
+cleared : (n : ℕ) (old : List ℕ) (r : ℕ) → r < n → getD (replicate n 0 ++ drop n old) r 0 ≡ 0
+cleared n old r l = List·getD-append (replicate n 0) (drop n old) 0 r (rw length-replicate l) ∙ getD-replicate n r 0 0 l
+
+-- the rows are as many as before
+cleared-length : (n : ℕ) (old : List ℕ) → n ≤ length old → length (replicate n 0 ++ drop n old) ≡ length old
+cleared-length n old l = length-front old (replicate n 0) n (length-replicate n 0 ∙ sym (length-take-le n old l))
+
+-- ---- the stage count
+
+-- it depends on the starts of the loop's operations alone
+stages-take : (l : Loop) (ii n : ℕ) (xs : List ℕ) → n ≡ size l → stageCount l ii (take n xs) ≡ stageCount l ii xs
+unfolding stageCount lastEnd
+stages-take l ii n xs e =
+    ap (λ (m : ℕ). ceilDiv (m + 1) ii)
+    (max-same (λ o. startOf (take n xs) o + opAt l o .latency) (λ o. startOf xs o + opAt l o .latency) 0 (size l)
+    (λ o i j. ap (λ (s : ℕ). s + opAt l o .latency) (getD-take n xs o 0 (omega arith))))
+
+-- ---- before the sweep
+
+-- a loop has at most 64 operations
+few : (f : List ℕ) (n : ℕ) → Accepted f → n ≡ size (loopOf f) → n ≤ 64
+few f n a e = omega (arith, accepted-ok f a .few)
+
+-- what the sweep asks for holds once the rows are cleared
+pub clears : {f list rows : List ℕ} {n recurrence cap horizon : ℕ} (starts rows′ : List ℕ) (resource least : ℕ) → Passed f n recurrence cap horizon list rows
+    → length starts ≡ 64 → rows′ ≡ replicate 4096 0 ++ drop 4096 rows → least ≡ max resource recurrence → Clear f starts rows′ n least cap horizon
+clears {f} {list} {rows} {n} {recurrence} starts rows′ resource least p wide e m =
+    record {
+      accepted = p .accepted;
+      is-size = p .is-size;
+      some = omega (arith, p .positive);
+      capped = p .capped;
+      near = p .near;
+      room = omega (arith, few f n (p .accepted) (p .is-size));
+      long = rw (e, cleared-length 4096 rows (p .long)) (p .long);
+      clear = λ r l. rw e (cleared 4096 rows r l);
+    }
+
+-- ---- after the sweep
+
+-- what is then known: the answer r, the starts and the rows
+pub record Come (f : List ℕ) (n resource recurrence least cap horizon budget : ℕ) (rows starts rows′ : List ℕ) (r : Swept) : Type 0 where
+  pub swept-is : SweptIs f n least cap horizon budget starts r
+  pub ranged : Ranged least cap budget r
+  pub least-is : least ≡ max resource recurrence
+  pub wide : length starts ≡ 64
+  pub rows-are : rows′ ≡ replicate 4096 0 ++ drop 4096 rows
+
+module _ {f list rows starts rows′ : List ℕ} {n resource recurrence least cap horizon budget : ℕ} {r : Swept} (p : Passed f n recurrence cap horizon list rows)
+    (come : Come f n resource recurrence least cap horizon budget rows starts rows′ r) where
+  -- the request
+  abbrev request : Request
+  request = record { cap = cap; horizon = horizon; budget = budget }
+
+  -- the bounds
+  abbrev lower : Lower
+  lower = record { resource = resource; recurrence = recurrence }
+
+  -- the starts have room for the loop's
+  pub room : n ≤ length starts
+  room = omega (arith, few f n (p .accepted) (p .is-size), come .wide)
+
+  -- the answer is the model's, from the larger bound on
+  comes-to : (s : Swept) → r ≡ s → outcomeOf (loopOf f) request lower n starts s ≡ sweep (loopOf f) request lower 0 (intervals lower cap)
+  comes-to s e =
+      ap (outcomeOf (loopOf f) request lower n starts) (sym e) ∙ come .swept-is lower
+      ∙ ap (λ (m : ℕ). sweep (loopOf f) request lower 0 (upFrom m (suc cap - m))) (come .least-is)
+
+  -- a list is found at an interval in range, with what is left
+  pub found-ranged : (ii left : ℕ) → r ≡ swept.Found ii left → (1 ≤ ii) × (ii ≤ 4096) × (left ≤ budget)
+  found-ranged ii left e =
+      let w : Ranged least cap budget (swept.Found ii left) = rw e at (come .ranged) in
+      (omega (arith, w .0, come .least-is, p .positive), omega (arith, w .1, p .capped), w .2)
+
+  -- there is none, with what is left
+  pub none-ranged : (left : ℕ) → r ≡ swept.Nothing left → left ≤ budget
+  none-ranged left e = rw e at (come .ranged)
+
+  -- a list is found, and written
+  pub finds : (list′ : List ℕ) (ii left stages : ℕ) → r ≡ swept.Found ii left → list′ ≡ take n starts ++ drop n list → stages ≡ stageCount (loopOf f) ii starts
+      → Attempted f resource recurrence cap horizon budget list rows
+      (searched.Found (record { interval = ii; resource = resource; recurrence = recurrence; stages = stages; probes = budget - left })) list′ rows′
+  finds list′ ii left stages e w s =
+      let size-is : n ≡ size (loopOf f) = p .is-size in
+      let long : length (take n starts) ≡ n = length-take-le n starts room in
+      let front : take (size (loopOf f)) list′ ≡ take n starts =
+      ap (take (size (loopOf f))) w ∙ take-at (take n starts) (drop n list) (size (loopOf f)) (long ∙ size-is) in
+      record {
+        says =
+            ap answered
+            (ap₂ (λ (k : ℕ) (xs : List ℕ). found (record { ii = ii; bounds = lower; stages = k; count = budget - left; starts = xs })) (s ∙ sym (stages-take (loopOf f) ii n starts size-is)) front
+            ∙ comes-to (swept.Found ii left) e);
+        list-is = w ∙ sym (ap (λ (xs : List ℕ). xs ++ drop (length xs) list) front ∙ ap (λ (k : ℕ). take n starts ++ drop k list) long);
+        rows-are = come .rows-are;
+      }
+
+  -- there is none
+  pub ends : (left : ℕ) → r ≡ swept.Nothing left → Attempted f resource recurrence cap horizon budget list rows (searched.Ended 10 cap (budget - left)) list rows′
+  ends left e = record { says = ap answered (comes-to (swept.Nothing left) e); list-is = refl; rows-are = come .rows-are }
+
+  -- the budget is spent
+  pub stops : (ii : ℕ) → r ≡ swept.Spent ii → Attempted f resource recurrence cap horizon budget list rows (searched.Ended 11 ii budget) list rows′
+  stops ii e = record { says = ap answered (comes-to (swept.Spent ii) e); list-is = refl; rows-are = come .rows-are }

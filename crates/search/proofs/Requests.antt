@@ -1,0 +1,184 @@
+-- What comes of a request: its numbers and the lent memory, check by check; and the whole answer of the search, return by return. Assumes nothing.
+use mathlib.Core.Path.{_≡_, refl, sym, ap, _∙_}
+use mathlib.Core.Bool.{true, false}
+use mathlib.Core.List.{List, _++_, append-assoc}
+use mathlib.Core.Option.{none, some}
+use Prim.Native.Nat.{ℕ, _≤_, _<_}
+use native.Mathlib.Omega.{arith}
+use lib.Dec.{ltb}
+use lib.ListN.{length}
+use borrow.Author.Tests.{ltb-false, lt-ltb, le-ltb}
+use Rattle.model.specs.Refusals.{Refusal, Check, firstRefusal}
+use Rattle.model.specs.Loop.{Loop, size}
+use Rattle.model.specs.File.{fileChecks, loopOf, Accepted, readFile}
+use Rattle.model.specs.Bounds.{resourceBound, Lower, LowerIs, cyclic, beyond, within}
+use Rattle.model.specs.Search.{Request, outside, requestChecks, roomChecks, searchChecks, by-check, by-bound, by-sweep}
+use Rattle.model.proofs.Lists.{or-false-right}
+use Rattle.model.proofs.Checks.{refusal-append, refusal-early, passes-head, passes-tail}
+use Rattle.loop_file.specs.Read.{refusal, readingOf, counted}
+use Rattle.loop_file.specs.declared.Reading.{Reading}
+use Rattle.loop_file.specs.declared.Reading.the-variants as reading
+use Rattle.loop_file.proofs.Answers.{IsAccepted, read-refused}
+use Rattle.bounds.specs.Answer.{boundsOf}
+use Rattle.bounds.specs.declared.LowerBounds.{LowerBounds}
+use Rattle.bounds.specs.declared.LowerBounds.the-variants as lower
+use Rattle.search.specs.Request.{refusalOf, AskedIs}
+use Rattle.search.specs.Answer.{asUnread, asRefused, asUnbounded, Searches, Passed, Attempted}
+use Rattle.search.specs.declared.request.Asked.{Asked}
+use Rattle.search.specs.declared.request.Asked.the-variants as asked
+use Rattle.search.specs.declared.Searched.{Searched}
+
+-- ---- one number of a request
+
+module _ (most x : ℕ) where
+  -- 0 is outside
+  pub too-small : x < 1 → outside most x ≡ true
+  too-small h = rw (lt-ltb x 1 h)
+
+  -- and so is a number above the most
+  pub too-large : 1 ≤ x → most < x → outside most x ≡ true
+  too-large a h = rw (le-ltb x 1 a, lt-ltb most x h)
+
+  -- no other is
+  pub fits : 1 ≤ x → x ≤ most → outside most x ≡ false
+  fits a b = rw (le-ltb x 1 a, le-ltb most x b)
+
+  -- a number that is not outside is at most the most
+  at-most : outside most x ≡ false → x ≤ most
+  at-most e = ltb-false most x (or-false-right (ltb x 1) (ltb most x) e)
+
+-- ---- the checks of a request
+
+module _ (n cap horizon budget list rows : ℕ) where
+  -- the cap
+  pub cap-refused : outside 4096 cap ≡ true → AskedIs n cap horizon budget list rows (asked.Refused 7 1)
+  unfolding requestChecks firstRefusal
+  cap-refused a l e = rw a
+
+  -- the horizon, where the cap passes
+  pub horizon-refused : outside 4096 cap ≡ false → outside 4096 horizon ≡ true → AskedIs n cap horizon budget list rows (asked.Refused 7 2)
+  unfolding requestChecks firstRefusal
+  horizon-refused a b l e = rw (a, b)
+
+  -- the budget, where these pass
+  pub budget-refused : outside 4096 cap ≡ false → outside 4096 horizon ≡ false → outside 1000000 budget ≡ true → AskedIs n cap horizon budget list rows (asked.Refused 7 3)
+  unfolding requestChecks firstRefusal
+  budget-refused a b d l e = rw (a, b, d)
+
+  -- where all three pass the lent memory decides
+  room-asked : outside 4096 cap ≡ false → outside 4096 horizon ≡ false → outside 1000000 budget ≡ false → (l : Loop)
+      → firstRefusal (requestChecks (record { cap = cap; horizon = horizon; budget = budget }) ++ roomChecks l list rows) ≡ firstRefusal (roomChecks l list rows)
+  unfolding requestChecks firstRefusal
+  room-asked a b d l = rw (a, b, d)
+
+  -- the list
+  pub list-refused : outside 4096 cap ≡ false → outside 4096 horizon ≡ false → outside 1000000 budget ≡ false → list < n → AskedIs n cap horizon budget list rows (asked.Refused 20 list)
+  unfolding roomChecks firstRefusal
+  list-refused a b d h l e = rw (room-asked a b d l, lt-ltb list (size l) (omega arith))
+
+  -- the table, where the list is long enough
+  pub rows-refused : outside 4096 cap ≡ false → outside 4096 horizon ≡ false → outside 1000000 budget ≡ false → n ≤ list → rows < 4096
+      → AskedIs n cap horizon budget list rows (asked.Refused 20 rows)
+  unfolding roomChecks firstRefusal
+  rows-refused a b d h k l e = rw (room-asked a b d l, le-ltb list (size l) (omega arith), lt-ltb rows 4096 k)
+
+  -- nothing is against it
+  pub none-refused : outside 4096 cap ≡ false → outside 4096 horizon ≡ false → outside 1000000 budget ≡ false → n ≤ list → 4096 ≤ rows
+      → AskedIs n cap horizon budget list rows asked.Fine
+  unfolding roomChecks firstRefusal
+  none-refused a b d h k l e = rw (room-asked a b d l, le-ltb list (size l) (omega arith), le-ltb rows 4096 k)
+
+-- ---- all checks
+
+module _ (f : List ℕ) (q : Request) (list rows : ℕ) where
+  -- the checks after the reader's
+  abbrev laterChecks : List Check
+  laterChecks = requestChecks q ++ roomChecks (loopOf f) list rows
+
+  -- all are the reader's, then these
+  all-checks : searchChecks f q list rows ≡ fileChecks f ++ laterChecks
+  unfolding searchChecks
+  all-checks = append-assoc (fileChecks f) (requestChecks q) (roomChecks (loopOf f) list rows)
+
+  -- the reader's refusal is the first
+  file-first : (r : Refusal) → firstRefusal (fileChecks f) ≡ some r → firstRefusal (searchChecks f q list rows) ≡ some r
+  file-first r e = ap firstRefusal all-checks ∙ refusal-early (fileChecks f) laterChecks r e
+
+  -- on an accepted file the later checks decide
+  later-decide : Accepted f → firstRefusal (searchChecks f q list rows) ≡ firstRefusal laterChecks
+  later-decide a = ap firstRefusal all-checks ∙ refusal-append (fileChecks f) laterChecks a
+
+-- what is known where no check fails
+pub record Passes (f : List ℕ) (n cap horizon budget : ℕ) (list rows : List ℕ) : Type 0 where
+  pub accepted : Accepted f
+  pub is-size : n ≡ size (loopOf f)
+  pub none-fails : firstRefusal (searchChecks f (record { cap = cap; horizon = horizon; budget = budget }) (length list) (length rows)) ≡ none
+  pub capped : cap ≤ 4096
+  pub near : horizon ≤ 4096
+  pub room : n ≤ length list
+  pub long : 4096 ≤ length rows
+
+-- ---- the answer, return by return
+
+-- the recurrence bound that is answered is at least 1
+bound-positive : (l : Loop) (x y : ℕ) → LowerIs l (boundsOf (lower.Found x y)) → 1 ≤ y
+bound-positive l x y (cyclic s g) = let z : _≡_ {A = ℕ} 0 1 = cc in absurd (omega arith)
+bound-positive l x y (beyond c r i g) = let z : _≡_ {A = ℕ} 0 1 = cc in absurd (omega arith)
+bound-positive l x y (within c r i g) =
+    let z : _≡_ {A = Lower} (record { resource = x; recurrence = y }) (record { resource = resourceBound l; recurrence = c }) = cc in
+    omega (arith, r .positive, ap (λ (b : Lower). b .recurrence) z)
+
+module _ {f : List ℕ} {cap horizon budget : ℕ} {list rows : List ℕ} where
+  -- the reader's refusal
+  pub by-file : {a : Reading} {r : Searched} {m d : ℕ} → readingOf a ≡ counted (readFile f) → a ≡ reading.Refused m d → r ≡ asUnread a → Searches f cap horizon budget list rows r list rows
+  by-file {m = m} {d = d} h e t =
+      let z : firstRefusal (fileChecks f) ≡ some (refusal m d) = read-refused f m d (sym (ap readingOf e) ∙ h) in
+      rw (t ∙ ap asUnread e) (record { says = by-check (refusal m d) (file-first f _ (length list) (length rows) (refusal m d) z) refl; list-is = refl; rows-are = refl })
+
+  -- the request's
+  pub by-request : {n u k : ℕ} {a : Asked} {r : Searched} {m d : ℕ} → IsAccepted f n u k → AskedIs n cap horizon budget (length list) (length rows) a → a ≡ asked.Refused m d → r ≡ asRefused a
+      → Searches f cap horizon budget list rows r list rows
+  by-request {m = m} {d = d} known h e t =
+      let z = later-decide f _ (length list) (length rows) (known .file) ∙ sym (h (loopOf f) (known .ops-are)) ∙ ap refusalOf e in
+      rw (t ∙ ap asRefused e) (record { says = by-check (refusal m d) z refl; list-is = refl; rows-are = refl })
+
+  -- nothing is against it
+  pub all-pass : {n u k : ℕ} {a : Asked} → IsAccepted f n u k → AskedIs n cap horizon budget (length list) (length rows) a → a ≡ asked.Fine → Passes f n cap horizon budget list rows
+  unfolding requestChecks roomChecks
+  all-pass known h e =
+      let q : Request = record { cap = cap; horizon = horizon; budget = budget } in
+      let all : firstRefusal (laterChecks f q (length list) (length rows)) ≡ none = sym (h (loopOf f) (known .ops-are)) ∙ ap refusalOf e in
+      let rest = passes-tail _ _ all in
+      let lent = passes-tail _ _ (passes-tail _ _ rest) in
+      record {
+        accepted = known .file;
+        is-size = known .ops-are;
+        none-fails = later-decide f q (length list) (length rows) (known .file) ∙ all;
+        capped = at-most 4096 cap (passes-head _ _ all);
+        near = at-most 4096 horizon (passes-head _ _ rest);
+        room = omega (arith, known .ops-are, ltb-false (length list) (size (loopOf f)) (passes-head _ _ lent));
+        long = ltb-false (length rows) 4096 (passes-head _ _ (passes-tail _ _ lent));
+      }
+
+  module _ {n : ℕ} {b : LowerBounds} (fine : Passes f n cap horizon budget list rows) (is : LowerIs (loopOf f) (boundsOf b)) where
+    -- the bounds' refusal
+    pub by-lower : {r : Searched} {m d : ℕ} → b ≡ lower.Refused m d → r ≡ asUnbounded b → Searches f cap horizon budget list rows r list rows
+    by-lower {m = m} {d = d} e t = rw (t ∙ ap asUnbounded e) (record { says = by-bound (refusal m d) (fine .none-fails) (rw e at is) refl; list-is = refl; rows-are = refl })
+
+    module _ {x y : ℕ} (e : b ≡ lower.Found x y) where
+      -- what the attempt asks for
+      pub passed : Passed f n y cap horizon list rows
+      passed =
+          record {
+            accepted = fine .accepted;
+            is-size = fine .is-size;
+            positive = bound-positive (loopOf f) x y (rw e at is);
+            capped = fine .capped;
+            near = fine .near;
+            room = fine .room;
+            long = fine .long;
+          }
+
+      -- its answer
+      pub by-attempt : {r : Searched} {list′ rows′ : List ℕ} → Attempted f x y cap horizon budget list rows r list′ rows′ → Searches f cap horizon budget list rows r list′ rows′
+      by-attempt t = record { says = by-sweep (record { resource = x; recurrence = y }) (fine .none-fails) (rw e at is) (t .says); list-is = t .list-is; rows-are = t .rows-are }

@@ -1,0 +1,21 @@
+-- `refused` meets its contract, by the case of the check of the request. Assumes nothing.
+use borrow.Author.Needs.{needs}
+use mathlib.Core.Path.{sym, ap}
+use Rattle.search.specs.Answer.{asRefused}
+use Rattle.search.proofs.refused.Statement.{statement}
+use Rattle.search.proofs.refused.Tie as tie
+
+enum-told : tie.Need-enum-told
+enum-told c = search needs
+
+enum-known-a : tie.Need-enum-known-a
+enum-known-a c = search needs
+
+returns : tie.Need-returns
+returns c = search needs
+
+returns-2 : tie.Need-returns-2
+returns-2 c = sym (ap asRefused (c .before .a .given .1))
+
+pub refused-spec : {M : Type 1} → statement M
+refused-spec = tie.close (tie.spec enum-told enum-known-a returns returns-2)

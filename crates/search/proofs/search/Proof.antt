@@ -1,0 +1,116 @@
+-- `search` meets its contract: the first check that fails is the answer, or the bounds' refusal; where there is neither, the attempt's. Assumes nothing.
+use mathlib.Core.Path.{sym, ap, _∙_}
+use borrow.Author.Needs.{needs}
+use Rattle.loop_file.specs.Read.{readingOf}
+use Rattle.loop_file.proofs.Answers.{IsAccepted, read-accepted}
+use Rattle.search.proofs.Requests.{Passes, by-file, by-request, all-pass, by-lower, passed, by-attempt}
+use Rattle.search.proofs.search.Statement.{statement}
+use Rattle.search.proofs.search.Tie as tie
+
+read-requires : tie.Need-read-requires
+read-requires c κs = search needs
+
+enum-known-reading : tie.Need-enum-known-reading
+enum-known-reading c = search needs
+
+enum-told : tie.Need-enum-told
+enum-told c = search needs
+
+unread-requires : tie.Need-unread-requires
+unread-requires c κs = search needs
+
+returns : tie.Need-returns
+returns c = by-file (c .before .before .before .read .ensures) (c .before .enum-told .given .1) (c .unread .ensures)
+
+-- ---- once the file is accepted
+
+-- the entry
+abbrev start : tie.After-known-told → tie.Start
+start c = c .before .before .before .before .before .before .before
+
+-- what the reader's answer says of the file
+known : (c : tie.After-known-told) → let t = c .before .reading .given .0 in IsAccepted (start c .args .file .now) (t .0) (t .1 .0) (t .1 .1 .0)
+known c = read-accepted _ _ _ _ (sym (ap readingOf (c .before .reading .given .1)) ∙ c .before .before .before .read .ensures)
+
+first-refusal-requires : tie.Need-first-refusal-requires
+first-refusal-requires c κs = search needs
+
+enum-told-2 : tie.Need-enum-told-2
+enum-told-2 c = search needs
+
+enum-told-3 : tie.Need-enum-told-3
+enum-told-3 c = search needs
+
+refused-requires : tie.Need-refused-requires
+refused-requires c κs = search needs
+
+returns-2 : tie.Need-returns-2
+returns-2 c = let a = c .before .before .before in by-request (known (a .before)) (a .first-refusal .ensures) (c .before .enum-told3 .given .1) (c .refused .ensures)
+
+-- ---- once the request passes
+
+-- no check fails
+fine : (c : tie.After-enum-told2) → let k = c .before .before .before in
+    let g = start k .args in
+    Passes (g .file .now) (k .before .reading .given .0 .0) (g .cap) (g .horizon) (g .budget) (g .list .now) (g .rows .now)
+fine c = let a = c .before .before in all-pass (known (a .before)) (a .first-refusal .ensures) (c .enum-told2 .given .1)
+
+lower-requires : tie.Need-lower-requires
+lower-requires c κs = known (c .before .before .before) .file
+
+enum-known-lower : tie.Need-enum-known-lower
+enum-known-lower c = search needs
+
+enum-told-4 : tie.Need-enum-told-4
+enum-told-4 c = search needs
+
+unbounded-requires : tie.Need-unbounded-requires
+unbounded-requires c κs = search needs
+
+returns-3 : tie.Need-returns-3
+returns-3 c = let b = c .before .before .before in by-lower (fine (b .before)) (b .lower .ensures) (c .before .enum-told4 .given .1) (c .unbounded .ensures)
+
+-- ---- once there are bounds
+
+attempt-requires : tie.Need-attempt-requires
+attempt-requires c κs =
+    let k = c .before .before .before in
+    let b = k .before .before in
+    passed (fine (b .before)) (b .lower .ensures) (k .lower2 .given .1)
+
+same-length : tie.Need-same-length
+same-length c = search needs
+
+same-length-2 : tie.Need-same-length-2
+same-length-2 c = search needs
+
+returns-4 : tie.Need-returns-4
+returns-4 c =
+    let t = c .before .before .before .before in
+    let k = t .before .before .before .before in
+    let b = k .before .before in
+    by-attempt (fine (b .before)) (b .lower .ensures) (k .lower2 .given .1) (t .attempt .ensures)
+
+pub search-spec : {M : Type 1} → statement M
+search-spec =
+    tie.close
+    (tie.spec
+    read-requires
+    enum-known-reading
+    enum-told
+    unread-requires
+    returns
+    first-refusal-requires
+    enum-told-2
+    enum-told-3
+    refused-requires
+    returns-2
+    lower-requires
+    enum-known-lower
+    enum-told-4
+    unbounded-requires
+    returns-3
+    attempt-requires
+    same-length
+    same-length-2
+    returns-4)

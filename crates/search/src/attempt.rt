@@ -1,0 +1,64 @@
+// The search of a file that has passed every check. Internal: asks for that.
+use crate::Searched;
+use crate::Solution;
+use crate::Swept;
+use crate::memory::write_list;
+use crate::stages::stage_count;
+use crate::sweep::sweep;
+use reservation::clear::clear_rows;
+ghost use mathlib.Core.Path.{_≡_};
+ghost use Prim.Native.Nat.{max};
+ghost use Rattle.search.specs.Answer.{Passed, Attempted};
+
+// The larger of two bounds.
+fn larger(a: usize, b: usize) -> usize
+    ensures { λ r. ⌜ r ≡ max a b ⌝ }
+{
+    if a < b {
+        return b;
+    }
+    a
+}
+
+// Clears the table, goes through the intervals, and writes the list where one is found. The starts are kept apart until then: the caller's list is not written without a schedule.
+pub fn attempt(
+    file: &[u8],
+    n: usize,
+    resource: usize,
+    recurrence: usize,
+    cap: usize,
+    horizon: usize,
+    budget: usize,
+    list: &mut [u16],
+    rows: &mut [u64],
+) -> Searched
+    requires { ⌜ Passed (now file) n recurrence cap horizon (now list) (now rows) ⌝ }
+    ensures { λ r. ⌜ Attempted (now (file .entry)) resource recurrence cap horizon budget (now (list .entry)) (now (rows .entry)) r (now (list .exit)) (now (rows .exit)) ⌝ }
+{
+    clear_rows(rows, 4096);
+    let mut starts = [0u16; 64];
+    let swept = sweep(
+        file,
+        &mut starts,
+        rows,
+        n,
+        larger(resource, recurrence),
+        cap,
+        horizon,
+        budget,
+    );
+    match swept {
+        Swept::Found(ii, left) => {
+            write_list(list, &starts, n);
+            Searched::Found(Solution {
+                interval: ii,
+                resource: resource,
+                recurrence: recurrence,
+                stages: stage_count(file, ii, &starts),
+                probes: budget - left,
+            })
+        }
+        Swept::Nothing(left) => Searched::Ended(10, cap, budget - left),
+        Swept::Spent(ii) => Searched::Ended(11, ii, budget),
+    }
+}
