@@ -188,10 +188,12 @@ conflictAt-sym ii p (some s) q (some t) = conflict-sym ii p s q t
 -- ---- one operation more
 
 module _ (f : Placing) (o t : ℕ) where
-  place-same : placeAt f o t o ≡ some t
+  -- it is placed at t
+  pub place-same : placeAt f o t o ≡ some t
   place-same = rw (eq-eqb o o refl)
 
-  place-other : (p : ℕ) → (p ≡ o → ⊥) → placeAt f o t p ≡ f p
+  -- and every other one is as it was
+  pub place-other : (p : ℕ) → (p ≡ o → ⊥) → placeAt f o t p ≡ f p
   place-other p n = rw (ne-eqb p o n)
 
   place-part : f o ≡ none → Part f (placeAt f o t)

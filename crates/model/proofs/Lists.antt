@@ -184,6 +184,13 @@ pub row-any : (p : ℕ → Bool) (a n : ℕ) → ((k : ℕ) → a ≤ k → k < 
 row-any p a n h =
     at-any p (upFrom a n) 0 (λ i l. let j : i < n = rw length-upFrom at l in ap p (getD-upFrom a n i 0 j) ∙ h (a + i) (omega arith) (omega arith))
 
+-- whether an element of a list passes, by its places
+pub any-places : {A : Type 0} (p : A → Bool) (xs : List A) (d : A) → any p xs ≡ any (λ i. p (getD xs i d)) (upFrom 0 (length xs))
+any-places p xs d =
+    same-test (any p xs) (any (λ i. p (getD xs i d)) (upFrom 0 (length xs)))
+    (λ e. row-any (λ i. p (getD xs i d)) 0 (length xs) (λ i l m. any-at p xs i d e (omega arith)))
+    (λ e. at-any p xs d (λ i l. any-row (λ i. p (getD xs i d)) 0 (length xs) i e (omega arith) (omega arith)))
+
 -- some number of a row passes
 pub row-some : (p : ℕ → Bool) (n k : ℕ) → k < n → p k ≡ true → any p (upFrom 0 n) ≡ true
 row-some p n k l e = some-any p (upFrom 0 n) 0 k (rw length-upFrom l) (ap p (getD-upFrom 0 n k 0 l ∙ zero-add k) ∙ e)

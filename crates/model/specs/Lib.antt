@@ -9,5 +9,6 @@ pub mod Table
 pub mod Bounds
 pub mod Search
 pub mod Session
+pub mod Undo
 pub mod Verifier
 pub mod Cases

@@ -3,7 +3,6 @@ use mathlib.Core.Path.{_≡_, refl, sym, ap, _∙_}
 use mathlib.Core.Bool.{false}
 use mathlib.Core.List.{List, _++_}
 use Prim.Native.Nat.{ℕ, _+_, _%_, _≤_, _<_}
-use native.Mathlib.Decide.{decLe}
 use native.Mathlib.Nat.{add-assoc, mod-lt}
 use native.Mathlib.Omega.{arith}
 use borrow.Author.Tests.{ltb-false}
@@ -13,18 +12,9 @@ use Rattle.model.specs.Loop.{Op, noUse, useAt, OpOk}
 use Rattle.model.specs.Legality.{Cell, sameCell, footprint, selfConflict}
 use Rattle.model.specs.Table.{countOf, IsTable, digitOf, Digits}
 use Rattle.model.proofs.Lists.{any-at, count-append}
-use Rattle.model.proofs.Conflicts.{hit-cell, self-once, once-self}
+use Rattle.model.proofs.Conflicts.{hit-cell, once-self}
 use Rattle.model.proofs.Table.{digit-count}
 use Rattle.reservation.specs.Rows.{UsesIn}
-
--- an operation that covers no cell of the table, and none twice, leaves every count a digit
-pub digits-free : (ii s : ℕ) (p : Op) → OpOk p → (cells : List Cell) → Digits 2 cells → selfConflict ii p ≡ false
-    → ((t r : ℕ) → 1 ≤ countOf t r (footprint ii p s) → countOf t r cells ≡ 0) → Digits 2 (footprint ii p s ++ cells)
-digits-free ii s p ok cells g self free t r = pick (decLe 1 (countOf t r (footprint ii p s)))
-  where
-    pick : Dec (1 ≤ countOf t r (footprint ii p s)) → countOf t r (footprint ii p s ++ cells) < 2
-    pick (yes m) = simp count-append (omega (arith, self-once ii p s ok self t r, free t r m))
-    pick (no n) = simp count-append (omega (arith, g t r))
 
 module _ (ii s : ℕ) (p : Op) (ok : OpOk p) (pos : 1 ≤ ii) (near : s ≤ 4096) where
   -- where each cell of the footprint has the bit d, the uses lie in the table

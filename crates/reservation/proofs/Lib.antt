@@ -9,3 +9,4 @@ pub mod Taken
 pub mod Fits
 pub mod Meeting
 pub mod Stores
+pub mod Placings

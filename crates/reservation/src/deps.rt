@@ -35,7 +35,7 @@ fn start_of(starts: &[u16], op: usize, start: usize, other: usize) -> usize
 }
 
 // Whether dependence e is one of `op` with itself or a placed operation, and is broken by `op` at `start`.
-fn breaks_at(
+pub fn breaks_at(
     file: &[u8],
     e: usize,
     op: usize,

@@ -1,4 +1,4 @@
-// Two operations at given starts: whether they meet in a cell.
+// Two operations at given starts: whether they meet in a cell; and one against itself.
 use loop_file::access::duration;
 use loop_file::access::first_use;
 use loop_file::access::offset;
@@ -68,6 +68,23 @@ pub fn overlap(file: &[u8], a: usize, from: usize, b: usize, to: usize, interval
     let mut j = 0;
     while j < n {
         if use_meets(file, first + j, from, b, to, interval) {
+            return true;
+        }
+        j = j + 1;
+    }
+    false
+}
+
+// Whether an operation conflicts with itself: a use of it is longer than the interval.
+pub fn too_long(file: &[u8], op: usize, interval: usize) -> bool
+    requires { ⌜ Accepted (now file) × (op < size (loopOf (now file))) ⌝ }
+    ensures { λ r. ⌜ r ≡ legality.selfConflict interval (opAt (loopOf (now (file .entry))) op) ⌝ }
+{
+    let first = first_use(file, op);
+    let n = use_count(file, op);
+    let mut j = 0;
+    while j < n {
+        if interval < duration(file, first + j) {
             return true;
         }
         j = j + 1;

@@ -5,7 +5,6 @@ pub mod Sweeps
 pub mod Turns
 pub mod Differences
 pub mod Spans
-pub mod Leaf
 pub mod Requests
 pub mod Steps
 pub mod Tops

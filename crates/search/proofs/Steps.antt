@@ -1,6 +1,6 @@
 -- What the turns of the search use: one start of one operation, and what is left to do after it. Assumes nothing.
 use mathlib.Core.Path.{_≡_, refl, sym, ap, subst, _∙_, fun-ext}
-use mathlib.Core.Bool.{Bool, true, false, _&&_, cond, and-false}
+use mathlib.Core.Bool.{Bool, true, false, not, _&&_, cond, and-false}
 use mathlib.Core.Logic.{_⊎_, inl, inr}
 use mathlib.Core.List.{List, [], _∷_, _++_, append-nil}
 use mathlib.Core.Option.{Option, none, some}
@@ -12,28 +12,25 @@ use borrow.Author.Tests.{lt-ltb, le-ltb, le-leb, lt-leb}
 use lib.Dec.{leb, ltb}
 use lib.ListN.{length, take, getD, set, length-set}
 use lib.Seq.{append-snoc, take-suc-set, take-take, take-set-le, length-take-le, getD-take, getD-set-same, getD-set-other}
-use Rattle.model.specs.Loop.{Use, Op, Loop, size, opAt, OpOk, LoopOk}
+use Rattle.model.specs.Loop.{Use, Op, Loop, size, opAt, LoopOk}
 use Rattle.model.specs.File.{loopOf}
-use Rattle.model.specs.Legality.{placed, Cell, footprint, selfConflict, legal, fitsAt}
-use Rattle.model.specs.Table.{countOf, cellsOf, IsTable, Digits}
-use Rattle.model.proofs.Lists.{and-both}
+use Rattle.model.specs.Legality.{Placing, placed, legalAt, legal, placeAt, fitsAt}
+use Rattle.model.specs.Table.{cellsOf, IsTable, Digits}
+use Rattle.model.proofs.Lists.{false-not, and-both}
 use Rattle.model.proofs.File.{accepted-ok}
-use Rattle.model.proofs.Conflicts.{apart-cells}
-use Rattle.model.proofs.Legality.{legal-prefix, legal-snoc}
+use Rattle.model.proofs.Placed.{placed-after, placed-snoc}
+use Rattle.model.proofs.Legality.{legal-prefix, legal-place, legal-snoc}
 use Rattle.reservation.specs.Rows.{overUses, withBit, lessBit, UsesIn}
 use Rattle.reservation.specs.Place.{firstTaken, placeOf, placeIs}
 use Rattle.reservation.specs.declared.Place.{Place}
 use Rattle.reservation.specs.declared.Place.the-variants.{Free, Taken}
-use Rattle.reservation.proofs.Fits.{free-self, free-apart}
-use Rattle.reservation.proofs.Free.{digits-free, uses-free, uses-taken}
-use Rattle.reservation.proofs.Tables.{reserve-table}
+use Rattle.reservation.proofs.Placings.{conflicts, legal-digits, fits-tests, fits-conflict, reserve-place, release-uses, free-conflict, conflict-free, reserve-uses, restored}
 use Rattle.search.specs.Span.{inside, allowed, WindowIs}
 use Rattle.search.specs.Tree.{under, treeAnswer, treeProbes, Res, broke, all, no-more, rest, run, runO}
 use Rattle.search.specs.Descent.{tell, Wrote, Ready, Done, below, branch}
 use Rattle.search.specs.declared.Found.{Found}
 use Rattle.search.specs.declared.Found.the-variants.{All, Spent, Nothing}
 use Rattle.search.proofs.Counting.{after, run-leaf, run-unfit, run-step, run-broke, run-end, run-all, run-skip}
-use Rattle.search.proofs.Leaf.{fits-leaf, free-fits, fits-free, legal-digits, table-next, restored}
 
 -- ---- a start that does not fit
 
@@ -41,6 +38,12 @@ use Rattle.search.proofs.Leaf.{fits-leaf, free-fits, fits-free, legal-d
 not-then : (a b : Bool) → (a ≡ true → b ≡ true) → b ≡ false → a ≡ false
 not-then true b f e = sym (f refl) ∙ e
 not-then false b f e = refl
+
+-- the next operation fits at s exactly where the dependences allow it and it does not conflict
+fits-next : (l : Loop) (ii : ℕ) (xs : List ℕ) (s : ℕ)
+    → fitsAt l ii (placed xs) (length xs) s ≡ (allowed l ii xs (length (l .deps)) s && not (conflicts l ii (placed xs) (length xs) s))
+unfolding allowed
+fits-next l ii xs s = fits-tests l ii (placed xs) (length xs) s
 
 module _ (l : Loop) (ii : ℕ) (xs : List ℕ) (s : ℕ) (in-loop : length xs < size l) where
   -- where the next operation does not fit at s, no list that goes on with s is legal
@@ -52,7 +55,7 @@ module _ (l : Loop) (ii : ℕ) (xs : List ℕ) (s : ℕ) (in-loop : length xs < 
 
   -- nor is one where the dependences do not allow s
   barred-below : allowed l ii xs (length (l .deps)) s ≡ false → (q : List ℕ) → legal l ii (xs ++ s ∷ q) ≡ false
-  barred-below e = unfit-below (rw (fits-leaf l ii xs s, e))
+  barred-below e = unfit-below (rw (fits-next l ii xs s, e))
 
 module _ (l : Loop) (ii : ℕ) (xs : List ℕ) (h k a b s : ℕ) (w : WindowIs l ii xs h k a b) (m : s < h) where
   -- a start below the horizon is allowed exactly inside the window
@@ -292,9 +295,9 @@ module _ {f starts rows : List ℕ} {op n ii h s : ℕ}
   abbrev p : Op
   p = opAt (loopOf f) op
 
-  -- the cells that are reserved
-  abbrev cells : List Cell
-  cells = cellsOf (loopOf f) ii (placed (take op starts))
+  -- the operations before it, placed
+  abbrev placing : Placing
+  placing = placed (take op starts)
 
   -- the rows with the operation reserved
   abbrev reserved : List ℕ
@@ -312,10 +315,6 @@ module _ {f starts rows : List ℕ} {op n ii h s : ℕ}
   pub op-few : op < 64
   op-few = omega (arith, op-in, loop-ok .few)
 
-  -- its uses are in order
-  op-ok : OpOk p
-  op-ok = loop-ok .op-ok op op-in
-
   -- it is the one after the prefix
   len : length (take op starts) ≡ op
   len = prefix-length ready
@@ -324,43 +323,59 @@ module _ {f starts rows : List ℕ} {op n ii h s : ℕ}
   in-loop : length (take op starts) < size (loopOf f)
   in-loop = omega (arith, len, op-in)
 
+  -- it is not placed yet
+  open-yet : placing op ≡ none
+  open-yet = placed-after (take op starts) op (omega (arith, len))
+
   -- every count of the cells is a bit
-  digits : Digits 2 cells
-  digits = legal-digits (loopOf f) ii (take op starts) loop-ok (ready .fine)
+  digits : Digits 2 (cellsOf (loopOf f) ii placing)
+  digits = legal-digits (loopOf f) ii placing loop-ok (ready .fine)
 
   -- it meets a taken cell: nothing begins with it
   pub unfit : {b : ℕ} → (firstTaken ii rows s (p .uses) ≡ none → ⊥) → Done (branch f starts op n ii h s b) n op (take op starts ++ s ∷ []) starts starts (Nothing b)
   unfit {b} taken =
-      let below-s = unfit-below (loopOf f) ii (take op starts) s in-loop (no-fit (fitsAt (loopOf f) ii (placed (take op starts)) (length (take op starts)) s) refl) in
+      let below-s = unfit-below (loopOf f) ii (take op starts) s in-loop (ap (λ (o : ℕ). fitsAt (loopOf f) ii placing o s) len ∙ no-fit (fitsAt (loopOf f) ii placing op s) refl) in
       let r : branch f starts op n ii h s b ≡ no-more b = run-unfit (under (under (legal (loopOf f) ii) (take op starts)) (s ∷ [])) h (n - op - 1) b below-s in
       record { says = rw r; list = rw r tt; kept = refl; same-length = refl }
     where
-      no-fit : (c : Bool) → fitsAt (loopOf f) ii (placed (take op starts)) (length (take op starts)) s ≡ c → c ≡ false
+      no-fit : (c : Bool) → fitsAt (loopOf f) ii placing op s ≡ c → c ≡ false
       no-fit true e =
-          absurd (taken (ap (λ (o : ℕ). firstTaken ii rows s (opAt (loopOf f) o .uses)) (sym len)
-          ∙ fits-free (loopOf f) ii (take op starts) s loop-ok (ready .some) in-loop rows (ready .held) digits e .1))
+          absurd (taken (conflict-free (loopOf f) ii placing op s loop-ok (ready .some) op-in open-yet rows (ready .held) digits (fits-conflict (loopOf f) ii placing op s e)))
       no-fit false e = refl
 
   -- the starts with one more
   one-more : take (op + 1) (set starts op s) ≡ take op starts ++ s ∷ []
   one-more = ap (λ (k : ℕ). take k (set starts op s)) (add-one op) ∙ take-suc-set starts op s (omega (arith, asked .1, ready .long))
 
-  module _ (free : firstTaken ii rows s (p .uses) ≡ none) where
-    -- it does not conflict with itself
-    self-clear : selfConflict ii p ≡ false
-    self-clear = free-self ii cells rows (ready .held) digits p op-ok (ready .some) s free
+  -- which place it too
+  next-placing : placed (take (op + 1) (set starts op s)) ≡ placeAt placing op s
+  next-placing = ap placed one-more ∙ placed-snoc (take op starts) s ∙ ap (λ (o : ℕ). placeAt placing o s) len
 
-    -- nor with what is reserved
-    apart : (t r : ℕ) → 1 ≤ countOf t r (footprint ii p s) → countOf t r cells ≡ 0
-    apart = apart-cells (footprint ii p s) cells (free-apart ii cells rows (ready .held) digits p op-ok (ready .some) s free)
+  module _ (free : firstTaken ii rows s (p .uses) ≡ none) where
+    -- it does not conflict
+    clear : conflicts (loopOf f) ii placing op s ≡ false
+    clear = free-conflict (loopOf f) ii placing op s loop-ok (ready .some) op-in open-yet rows (ready .held) digits free
 
     -- so it can be reserved
     pub can-reserve : UsesIn 0 rows ii s (p .uses)
-    can-reserve = uses-free ii s p op-ok (ready .some) (omega (arith, asked .2, ready .near)) cells rows (ready .held) digits self-clear apart
+    can-reserve = reserve-uses (loopOf f) ii placing op s loop-ok (ready .some) op-in open-yet rows (ready .held) digits (omega (arith, asked .2, ready .near)) clear
 
     -- the table with it
-    with-it : {rows₁ : List ℕ} → rows₁ ≡ reserved → IsTable 2 ii (footprint ii p s ++ cells) rows₁
-    with-it e = rw e (reserve-table ii s p op-ok (ready .some) cells rows (ready .held))
+    with-it : {rows₁ : List ℕ} → rows₁ ≡ reserved → IsTable 2 ii (cellsOf (loopOf f) ii (placeAt placing op s)) rows₁
+    with-it e = rw e (reserve-place (loopOf f) ii placing op s loop-ok (ready .some) op-in open-yet rows (ready .held))
+
+    -- it fits
+    fits-here : fitsAt (loopOf f) ii placing op s ≡ true
+    fits-here =
+        ap (λ (o : ℕ). fitsAt (loopOf f) ii placing o s) (sym len) ∙ fits-next (loopOf f) ii (take op starts) s
+        ∙ and-both (allowed (loopOf f) ii (take op starts) (length (loopOf f .deps)) s) _ (asked .3)
+        (ap (λ (o : ℕ). not (conflicts (loopOf f) ii placing o s)) len ∙ false-not (conflicts (loopOf f) ii placing op s) clear)
+
+    -- so the placing with it is legal
+    legal-with : legalAt (loopOf f) ii (placeAt placing op s) ≡ true
+    legal-with =
+        legal-place (loopOf f) ii placing op s op-in open-yet
+        ∙ and-both (legalAt (loopOf f) ii placing) (fitsAt (loopOf f) ii placing op s) (ready .fine) fits-here
 
     -- the search stands one operation deeper
     pub deeper : {rows₁ : List ℕ} → rows₁ ≡ reserved → Ready f (set starts op s) rows₁ (op + 1) n ii h
@@ -373,14 +388,8 @@ module _ {f starts rows : List ℕ} {op n ii h s : ℕ}
       near = ready .near;
       long = omega (arith, ready .long, length-set starts op s);
       early = λ o l. pick o (omega arith) (ℕ-discrete o op);
-      held =
-          rw one-more
-          (table-next (loopOf f) ii (take op starts) s in-loop rows₁ (subst (λ (o : ℕ). IsTable 2 ii (footprint ii (opAt (loopOf f) o) s ++ cells) rows₁) (sym len) (with-it e)));
-      fine =
-          ap (legal (loopOf f) ii) one-more ∙ legal-snoc (loopOf f) ii (take op starts) s in-loop
-          ∙ and-both (legal (loopOf f) ii (take op starts)) _ (ready .fine)
-          (free-fits (loopOf f) ii (take op starts) s loop-ok (ready .some) in-loop rows (ready .held) digits (asked .3)
-          (ap (λ (o : ℕ). firstTaken ii rows s (opAt (loopOf f) o .uses)) len ∙ free));
+      held = subst (λ (g : Placing). IsTable 2 ii (cellsOf (loopOf f) ii g) rows₁) (sym next-placing) (with-it e);
+      fine = ap (legalAt (loopOf f) ii) next-placing ∙ legal-with;
     }
       where
         pick : (o : ℕ) → o ≤ op → Dec (o ≡ op) → getD (set starts op s) o 0 < 4096
@@ -391,11 +400,12 @@ module _ {f starts rows : List ℕ} {op n ii h s : ℕ}
       -- the rows as they were after reserving: it can be released
       pub can-release : UsesIn 1 rows₂ ii s (p .uses)
       can-release =
-          uses-taken ii s p op-ok (ready .some) (omega (arith, asked .2, ready .near)) cells rows₂ (with-it (same ∙ put)) (digits-free ii s p op-ok cells digits self-clear apart)
+          release-uses (loopOf f) ii placing op s loop-ok (ready .some) op-in open-yet (omega (arith, asked .2, ready .near)) rows₂ (with-it (same ∙ put))
+          (legal-digits (loopOf f) ii (placeAt placing op s) loop-ok legal-with)
 
       -- which gives the first rows back
       pub given-back : {rows₃ : List ℕ} → rows₃ ≡ overUses lessBit ii s (p .uses) (length (p .uses)) rows₂ → rows₃ ≡ rows
-      given-back e = e ∙ ap (overUses lessBit ii s (p .uses) (length (p .uses))) (same ∙ put) ∙ restored ii s p op-ok (ready .some) cells rows (ready .held)
+      given-back e = e ∙ ap (overUses lessBit ii s (p .uses) (length (p .uses))) (same ∙ put) ∙ restored ii s p (loop-ok .op-ok op op-in) (ready .some) (cellsOf (loopOf f) ii placing) rows (ready .held)
 
   -- what the operations after it come to is what its branch comes to
   pub back : (b : ℕ) {later : List ℕ} {r : Found} → Done (below f (set starts op s) (op + 1) n ii h b) n (op + 1) (take (op + 1) (set starts op s)) (set starts op s) later r
