@@ -1,4 +1,4 @@
--- Laws of tables of checks: the first refusal of tables one after the other, and of a table over a row of numbers. Assumes nothing.
+-- Laws of tables of checks: the first refusal of tables one after the other, and of a table over a row of numbers; numbers out of range. Assumes nothing.
 use mathlib.Core.Path.{_≡_, refl, sym, ap, _∙_}
 use mathlib.Core.Bool.{Bool, true, false, cond}
 use mathlib.Core.List.{List, [], _∷_, _++_, flatMap}
@@ -7,9 +7,12 @@ use mathlib.Core.Option.{none, some}
 use Prim.Native.Nat.{ℕ, zero, suc, _+_, _-_, _≤_, _<_}
 use native.Mathlib.Nat.{eq-or-lt-of-le}
 use native.Mathlib.Omega.{arith}
+use borrow.Author.Tests.{ltb-false, lt-ltb, le-ltb}
+use lib.Dec.{ltb}
 use Rattle.model.specs.Lists.{upFrom}
 use Rattle.model.specs.Refusals.{Refusal, Check, firstRefusal}
-use Rattle.model.proofs.Lists.{upFrom-split, flatMap-append, flat-next}
+use Rattle.model.specs.Search.{outside}
+use Rattle.model.proofs.Lists.{or-false-left, or-false-right, upFrom-split, flatMap-append, flat-next}
 
 -- ---- tables of checks
 
@@ -86,3 +89,25 @@ row-refused t k n r l p q =
     ∙ ap firstRefusal (flatMap-append t (upFrom 0 (k + 1)) (upFrom (0 + (k + 1)) (n - (k + 1))))
     ∙ refusal-early (flatMap t (upFrom 0 (k + 1))) (flatMap t (upFrom (0 + (k + 1)) (n - (k + 1)))) r
     (rw (flat-next t k, refusal-append (flatMap t (upFrom 0 k)) (t k) p) q)
+
+-- ---- a number out of range
+
+module _ (most x : ℕ) where
+  -- 0 is outside
+  pub too-small : x < 1 → outside most x ≡ true
+  too-small h = rw (lt-ltb x 1 h)
+
+  -- and so is a number above the most
+  pub too-large : 1 ≤ x → most < x → outside most x ≡ true
+  too-large a h = rw (le-ltb x 1 a, lt-ltb most x h)
+
+  -- no other is
+  pub in-range : 1 ≤ x → x ≤ most → outside most x ≡ false
+  in-range a b = rw (le-ltb x 1 a, le-ltb most x b)
+
+  -- a number that is not outside is at most the most, and at least 1
+  pub at-most : outside most x ≡ false → x ≤ most
+  at-most e = ltb-false most x (or-false-right (ltb x 1) (ltb most x) e)
+
+  pub at-least : outside most x ≡ false → 1 ≤ x
+  at-least e = ltb-false x 1 (or-false-left (ltb x 1) (ltb most x) e)

@@ -8,7 +8,9 @@ use native.Mathlib.Omega.{arith}
 use lib.ListN.{length, getD}
 use Rattle.model.specs.Lists.{first}
 use Rattle.model.specs.Loop.{Use, noUse}
-use Rattle.reservation.specs.Place.{takenAt, takenIn, slotIn, firstTaken, placeIs}
+use Rattle.reservation.specs.Place.{takenAt, takenIn, slotIn, firstTaken, placeOf, placeIs}
+use Rattle.reservation.specs.declared.Place.{Place}
+use Rattle.reservation.specs.declared.Place.the-variants.{Free, Taken}
 use Rattle.model.proofs.Firsts.{grid-not, grid-at}
 
 -- a slot is at least 1, so 0 says that no use was found
@@ -41,3 +43,14 @@ module _ (ii : ℕ) (rows : List ℕ) (s : ℕ) (us : List Use) where
       pick : (o : Option Use) → first (takenAt ii rows s k) us ≡ o → r ≡ slotIn o → placeIs (firstTaken ii rows s us) ≡ some (k, r)
       pick none q f = absurd (omega arith)
       pick (some u) q f = ap placeIs (grid-at (takenAt ii rows s) us 16 k u l h q) ∙ ap (λ (x : ℕ). some (k, x)) (sym f)
+
+-- ---- what the conflict test says
+
+-- it finds nothing: nothing is taken
+pub free-place : (r : Place) (o : Option (ℕ × Use)) → placeOf r ≡ placeIs o → r ≡ Free → o ≡ none
+free-place r none e q = refl
+free-place r (some p) e q = let z : _≡_ {A = ℕ} 0 1 = cc in absurd (omega arith)
+
+-- it finds a place: something is
+pub taken-place : (r : Place) (k t : ℕ) (o : Option (ℕ × Use)) → placeOf r ≡ placeIs o → r ≡ Taken k t → o ≡ none → ⊥
+taken-place r k t o e q z = let y : _≡_ {A = ℕ} 0 1 = cc in omega arith

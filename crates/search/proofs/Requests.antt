@@ -5,7 +5,6 @@ use mathlib.Core.List.{List, _++_, append-assoc}
 use mathlib.Core.Option.{none, some}
 use Prim.Native.Nat.{ℕ, _≤_, _<_}
 use native.Mathlib.Omega.{arith}
-use lib.Dec.{ltb}
 use lib.ListN.{length}
 use borrow.Author.Tests.{ltb-false, lt-ltb, le-ltb}
 use Rattle.model.specs.Refusals.{Refusal, Check, firstRefusal}
@@ -13,8 +12,7 @@ use Rattle.model.specs.Loop.{Loop, size}
 use Rattle.model.specs.File.{fileChecks, loopOf, Accepted, readFile}
 use Rattle.model.specs.Bounds.{resourceBound, Lower, LowerIs, cyclic, beyond, within}
 use Rattle.model.specs.Search.{Request, outside, requestChecks, roomChecks, searchChecks, by-check, by-bound, by-sweep}
-use Rattle.model.proofs.Lists.{or-false-right}
-use Rattle.model.proofs.Checks.{refusal-append, refusal-early, passes-head, passes-tail}
+use Rattle.model.proofs.Checks.{refusal-append, refusal-early, passes-head, passes-tail, at-most}
 use Rattle.loop_file.specs.Read.{refusal, readingOf, counted}
 use Rattle.loop_file.specs.declared.Reading.{Reading}
 use Rattle.loop_file.specs.declared.Reading.the-variants as reading
@@ -27,25 +25,6 @@ use Rattle.search.specs.Answer.{asUnread, asRefused, asUnbounded, Search
 use Rattle.search.specs.declared.request.Asked.{Asked}
 use Rattle.search.specs.declared.request.Asked.the-variants as asked
 use Rattle.search.specs.declared.Searched.{Searched}
-
--- ---- one number of a request
-
-module _ (most x : ℕ) where
-  -- 0 is outside
-  pub too-small : x < 1 → outside most x ≡ true
-  too-small h = rw (lt-ltb x 1 h)
-
-  -- and so is a number above the most
-  pub too-large : 1 ≤ x → most < x → outside most x ≡ true
-  too-large a h = rw (le-ltb x 1 a, lt-ltb most x h)
-
-  -- no other is
-  pub fits : 1 ≤ x → x ≤ most → outside most x ≡ false
-  fits a b = rw (le-ltb x 1 a, le-ltb most x b)
-
-  -- a number that is not outside is at most the most
-  at-most : outside most x ≡ false → x ≤ most
-  at-most e = ltb-false most x (or-false-right (ltb x 1) (ltb most x) e)
 
 -- ---- the checks of a request
 

@@ -21,9 +21,7 @@ use Rattle.model.proofs.File.{accepted-ok}
 use Rattle.model.proofs.Placed.{placed-after, placed-snoc}
 use Rattle.model.proofs.Legality.{legal-prefix, legal-place, legal-snoc}
 use Rattle.reservation.specs.Rows.{overUses, withBit, lessBit, UsesIn}
-use Rattle.reservation.specs.Place.{firstTaken, placeOf, placeIs}
-use Rattle.reservation.specs.declared.Place.{Place}
-use Rattle.reservation.specs.declared.Place.the-variants.{Free, Taken}
+use Rattle.reservation.specs.Place.{firstTaken}
 use Rattle.reservation.proofs.Placings.{conflicts, legal-digits, fits-tests, fits-conflict, reserve-place, release-uses, free-conflict, conflict-free, reserve-uses, restored}
 use Rattle.search.specs.Span.{inside, allowed, WindowIs}
 use Rattle.search.specs.Tree.{under, treeAnswer, treeProbes, Res, broke, all, no-more, rest, run, runO}
@@ -275,15 +273,6 @@ module _ {f starts₀ rows₀ : List ℕ} {op n ii h : ℕ} (ready : Ready f sta
       }
 
 -- ---- one start, which the dependences allow
-
--- the conflict test finds nothing: nothing is taken
-pub free-place : (r : Place) (o : Option (ℕ × Use)) → placeOf r ≡ placeIs o → r ≡ Free → o ≡ none
-free-place r none e q = refl
-free-place r (some p) e q = let z : _≡_ {A = ℕ} 0 1 = cc in absurd (omega arith)
-
--- it finds a place: something is
-pub taken-place : (r : Place) (k t : ℕ) (o : Option (ℕ × Use)) → placeOf r ≡ placeIs o → r ≡ Taken k t → o ≡ none → ⊥
-taken-place r k t o e q z = let y : _≡_ {A = ℕ} 0 1 = cc in omega arith
 
 module _ {f starts rows : List ℕ} {op n ii h s : ℕ}
     (asked : Ready f starts rows op n ii h × (op < n) × (s < h) × (allowed (loopOf f) ii (take op starts) (length (loopOf f .deps)) s ≡ true)) where

@@ -13,7 +13,8 @@ use borrow.Fn.PlainCycle.{Measures, is, falls, and}
 use Rattle.model.specs.Loop.{opAt}
 use Rattle.model.specs.File.{loopOf}
 use Rattle.reservation.specs.Place.{firstTaken}
-use Rattle.search.proofs.Steps.{Turn, Turned, same-turn, leaf, begins, ends, breaks, may-try, skips, turned, free-place, taken-place, op-few, unfit, can-reserve, deeper, can-release, given-back, back}
+use Rattle.reservation.proofs.Taken.{free-place, taken-place}
+use Rattle.search.proofs.Steps.{Turn, Turned, same-turn, leaf, begins, ends, breaks, may-try, skips, turned, op-few, unfit, can-reserve, deeper, can-release, given-back, back}
 use Rattle.search.proofs.descent.choose.Reads as choose
 use Rattle.search.proofs.descent.choose.Kinds as choose-kinds
 use Rattle.search.proofs.descent.+choose+try_start.Lts-choose as choose-lts

@@ -2,7 +2,8 @@
 use mathlib.Core.Path.{_≡_}
 use mathlib.Core.Bool.{false}
 use Rattle.model.specs.Search.{outside}
-use Rattle.search.proofs.Requests.{too-small, too-large, fits, cap-refused, horizon-refused, budget-refused, list-refused, rows-refused, none-refused}
+use Rattle.model.proofs.Checks.{too-small, too-large, in-range}
+use Rattle.search.proofs.Requests.{cap-refused, horizon-refused, budget-refused, list-refused, rows-refused, none-refused}
 use Rattle.search.proofs.request.first_refusal.Statement.{statement}
 use Rattle.search.proofs.request.first_refusal.Tie as tie
 
@@ -16,7 +17,7 @@ returns-2 c = cap-refused _ _ _ _ _ _ (too-large 4096 _ (c .before .if1 .left) (
 
 -- it passes
 cap-fits : (c : tie.Else2) → outside 4096 (c .before .before .args .cap) ≡ false
-cap-fits c = fits 4096 _ (c .before .if1 .left) (c .if2 .left)
+cap-fits c = in-range 4096 _ (c .before .if1 .left) (c .if2 .left)
 
 -- ---- the horizon
 
@@ -28,7 +29,7 @@ returns-4 c = horizon-refused _ _ _ _ _ _ (cap-fits (c .before .before)) (too-la
 
 -- it passes
 horizon-fits : (c : tie.Else4) → outside 4096 (c .before .before .before .before .args .horizon) ≡ false
-horizon-fits c = fits 4096 _ (c .before .if3 .left) (c .if4 .left)
+horizon-fits c = in-range 4096 _ (c .before .if3 .left) (c .if4 .left)
 
 -- ---- the budget
 
@@ -40,7 +41,7 @@ returns-6 c = let h = c .before .before in budget-refused _ _ _ _ _ _ (cap-fits 
 
 -- it passes
 budget-fits : (c : tie.Else6) → outside 1000000 (c .before .before .before .before .before .before .args .budget) ≡ false
-budget-fits c = fits 1000000 _ (c .before .if5 .left) (c .if6 .left)
+budget-fits c = in-range 1000000 _ (c .before .if5 .left) (c .if6 .left)
 
 -- ---- the list and the table
 

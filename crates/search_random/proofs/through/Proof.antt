@@ -1,0 +1,34 @@
+-- `through` is safe and ends: its loop counts up, and the measure is the loops left. Assumes nothing.
+use Prim.Native.Nat.{_-_}
+use borrow.Author.Needs.{needs}
+use Rattle.search_random.proofs.through.Statement.{statement}
+use Rattle.search_random.proofs.through.Tie as tie
+
+abbrev Inv-loop : tie.InvT-loop
+Inv-loop from to out₀ i₀ out i = Unit
+
+abbrev μ-loop : tie.MeasureT-loop
+μ-loop from to out₀ i₀ out i = to - i
+
+loop-holds : tie.Need-loop-holds Inv-loop μ-loop
+loop-holds c = search needs
+
+with-requires : tie.Need-with-requires Inv-loop μ-loop
+with-requires c κs = search needs
+
+add-i : tie.Need-add-i Inv-loop μ-loop
+add-i c = search needs
+
+loop-less : tie.Need-loop-less Inv-loop μ-loop
+loop-less c = search needs
+
+loop-again : tie.Need-loop-again Inv-loop μ-loop
+loop-again c = search needs
+
+returns : tie.Need-returns Inv-loop μ-loop
+returns c = search needs
+
+pub through-spec : {M : Type 1} → statement M
+through-spec =
+    tie.close
+    (tie.spec Inv-loop μ-loop loop-holds with-requires add-i loop-less loop-again returns)
