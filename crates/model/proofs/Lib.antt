@@ -17,4 +17,5 @@ pub mod Bounds
 pub mod Answers
 pub mod Verifier
 pub mod Session
+pub mod Undo
 pub mod Cases

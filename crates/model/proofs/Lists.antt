@@ -7,7 +7,7 @@ use Prim.Native.Nat.{ℕ, zero, suc, _+_, _-_, _≤_, _<_}
 use native.Mathlib.Nat.{add-zero, zero-add, suc-add, le-of-suc-le-suc, not-suc-le-zero}
 use native.Mathlib.Decide.{ℕ-discrete}
 use native.Mathlib.Omega.{arith}
-use lib.ListN.{length, getD}
+use lib.ListN.{length, getD, replicate}
 use Rattle.model.specs.Lists.{upFrom, pairs, any, first, count, sumOf}
 
 -- ---- tests
@@ -100,6 +100,12 @@ module _ {B : Type 0} where
   pub map-append : {A : Type 0} (f : A → B) (xs ys : List A) → map f (xs ++ ys) ≡ map f xs ++ map f ys
   map-append f [] ys = refl
   map-append f (x ∷ xs) ys = ap (λ (r : List B). f x ∷ r) (map-append f xs ys)
+
+-- a list of one value has it everywhere, past its end too
+pub getD-filled : {A : Type 0} (n i : ℕ) (a : A) → getD (replicate n a) i a ≡ a
+getD-filled zero i a = refl
+getD-filled (suc n) zero a = refl
+getD-filled (suc n) (suc i) a = getD-filled n i a
 
 -- ---- any
 

@@ -49,15 +49,29 @@ pub rollback-open : (u : Setup) (st : State) (m : ℕ) → 1 ≤ m → m ≤ len
 rollback-open u st m low high =
     ap (λ (p : State × Answer Reply). length (p .0 .checkpoints)) (rollback-done u st m low high) ∙ length-take-le m (st .checkpoints) high
 
+-- states are equal where their parts are
+pub state-same : {a b : Starts} {c d : List Starts} → a ≡ b → c ≡ d → _≡_ {A = State} (record { starts = a; checkpoints = c }) (record { starts = b; checkpoints = d })
+state-same p q = rw (p, q)
+
+-- the state with one checkpoint more
+abbrev pub marked : State → State
+marked st = record { starts = st .starts; checkpoints = st .checkpoints ++ (st .starts ∷ []) }
+
+-- the state that going back to checkpoint m gives
+abbrev pub wentBack : ℕ → State → State
+wentBack m st = record { starts = getD (st .checkpoints) (m - 1) []; checkpoints = take m (st .checkpoints) }
+
 -- going back to a checkpoint just set gives the state of then
+pub back-newest : (m : ℕ) (st : State) → m ≡ length (st .checkpoints) + 1 → wentBack m (marked st) ≡ marked st
+back-newest m st e =
+    let long : length (marked st .checkpoints) ≡ length (st .checkpoints) + 1 = length-append (st .checkpoints) (st .starts ∷ []) in
+    state-same
+    (ap (λ (i : ℕ). getD (marked st .checkpoints) i []) (omega arith) ∙ getD-append-seam (st .checkpoints) (st .starts) [] [])
+    (take-all m (marked st .checkpoints) (omega arith))
+
+-- so does the call
 pub rollback-exact : (u : Setup) (st : State) → length (st .checkpoints) < 16
     → step u (rollback (length (st .checkpoints) + 1)) (step u checkpoint st .0) .0 ≡ step u checkpoint st .0
 rollback-exact u st h =
-    let n : ℕ = length (st .checkpoints) in
-    let next : State = record { starts = st .starts; checkpoints = st .checkpoints ++ (st .starts ∷ []) } in
-    let long : length (next .checkpoints) ≡ n + 1 = length-append (st .checkpoints) (st .starts ∷ []) in
-    rw (checkpoint-done u st h, rollback-done u next (n + 1) (omega arith) (omega arith))
-    (same (ap (λ (i : ℕ). getD (next .checkpoints) i []) (omega arith) ∙ getD-append-seam (st .checkpoints) (st .starts) [] []) (take-all (n + 1) (next .checkpoints) (omega arith)))
-  where
-    same : {a b : Starts} {c d : List Starts} → a ≡ b → c ≡ d → _≡_ {A = State} (record { starts = a; checkpoints = c }) (record { starts = b; checkpoints = d })
-    same p q = rw (p, q)
+    let long : length (marked st .checkpoints) ≡ length (st .checkpoints) + 1 = length-append (st .checkpoints) (st .starts ∷ []) in
+    rw (checkpoint-done u st h, rollback-done u (marked st) (length (st .checkpoints) + 1) (omega arith) (omega arith)) (back-newest _ st refl)

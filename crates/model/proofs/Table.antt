@@ -2,7 +2,8 @@
 use mathlib.Core.Path.{_≡_, refl, sym, ap, _∙_, fun-ext}
 use mathlib.Core.Bool.{and-false}
 use mathlib.Core.Logic.{_⊎_, inl, inr}
-use mathlib.Core.List.{List, [], _∷_, _++_, map}
+use mathlib.Core.List.{List, [], _∷_, _++_, map, flatMap}
+use mathlib.Core.Option.{none}
 use Prim.Native.Nat.{ℕ, zero, suc, _+_, _-_, _*_, _/_, _%_, _^_, _≤_, _<_}
 use native.Mathlib.Nat.{add-mul, zero-mul, one-mul, zero-add, add-zero, add-comm, mul-assoc, le-refl, le-of-suc-le-suc, not-suc-le-zero, eq-or-lt-of-le, mod-eq-of-lt, one-le-pow, add-mul-div-right, add-mul-mod-self-right, pow-zero, pow-succ', pow-le-pow-right, div-eq-of-lt, sub-add-cancel}
 use native.Mathlib.Decide.{ℕ-discrete}
@@ -13,8 +14,9 @@ use lib.ListN.{length, getD, set, take, replicate, length-set, length-replicate,
 use lib.Pow.{pow-add}
 use lib.Seq.{ext-getD, getD-take, getD-set-same, getD-set-other, length-take-le, take-all}
 use Rattle.model.specs.Lists.{upFrom, count}
-use Rattle.model.specs.Legality.{Cell}
-use Rattle.model.specs.Table.{countOf, number, rowNumber, tableOf, IsTable, digitOf, Digits}
+use Rattle.model.specs.Loop.{Loop, size, opAt}
+use Rattle.model.specs.Legality.{Placing, Cell}
+use Rattle.model.specs.Table.{countOf, number, rowNumber, tableOf, opCells, cellsOf, IsTable, digitOf, Digits}
 use Rattle.model.proofs.Lists.{count-append, length-tabulate, getD-tabulate}
 
 -- ---- the count of a cell
@@ -237,3 +239,14 @@ pub row-fits : (base ii s r : ℕ) (cells : List Cell) (rows : List ℕ) → bas
 row-fits base ii s r cells rows w b t d l hi =
     let h : s - 1 ≤ 23 = omega arith in
     omega (arith, t .at r l, row-lt base r cells (λ u. d u r), pow-le-pow-right {n = base} b h)
+
+-- ---- nothing placed
+
+-- where nothing is placed there are no cells
+pub cells-nothing : (l : Loop) (ii : ℕ) (f : Placing) → ((o : ℕ) → f o ≡ none) → cellsOf l ii f ≡ []
+unfolding cellsOf flatMap
+cells-nothing l ii f h = none-of (upFrom 0 (size l))
+  where
+    none-of : (os : List ℕ) → flatMap (λ o. opCells ii (opAt l o) (f o)) os ≡ []
+    none-of [] = refl
+    none-of (o ∷ os) = rw (h o) (none-of os)

@@ -3,8 +3,8 @@ use mathlib.Core.Path.{_≡_, refl, sym, ap, ap₂, _∙_}
 use mathlib.Core.List.{List, _++_}
 use Prim.Native.Nat.{ℕ, suc, _+_, _-_, _≤_, _<_, max}
 use native.Mathlib.Omega.{arith}
-use lib.ListN.{length, getD, take, drop, replicate, length-replicate, getD-replicate, List·getD-append}
-use lib.Seq.{getD-take, length-take-le, length-front, take-at}
+use lib.ListN.{length, take, drop, replicate}
+use lib.Seq.{getD-take, length-take-le, take-at}
 use Rattle.model.specs.Lists.{upFrom}
 use Rattle.model.specs.Refusals.{answered}
 use Rattle.model.specs.Loop.{Loop, size, opAt}
@@ -13,21 +13,12 @@ use Rattle.model.specs.Bounds.{Lower}
 use Rattle.model.specs.Search.{startOf, lastEnd, stageCount, ceilDiv, Request, found, intervals, sweep}
 use Rattle.model.proofs.File.{accepted-ok}
 use Rattle.model.proofs.Sums.{max-same}
+use Rattle.reservation.proofs.Stores.{cleared, cleared-length}
 use Rattle.search.specs.Sweep.{Clear, outcomeOf, SweptIs, Ranged}
 use Rattle.search.specs.Answer.{Passed, Attempted}
 use Rattle.search.specs.declared.Swept.{Swept}
 use Rattle.search.specs.declared.Swept.the-variants as swept
 use Rattle.search.specs.declared.Searched.the-variants as searched
-
--- ---- the table
-
--- a row that is cleared is 0
-cleared : (n : ℕ) (old : List ℕ) (r : ℕ) → r < n → getD (replicate n 0 ++ drop n old) r 0 ≡ 0
-cleared n old r l = List·getD-append (replicate n 0) (drop n old) 0 r (rw length-replicate l) ∙ getD-replicate n r 0 0 l
-
--- the rows are as many as before
-cleared-length : (n : ℕ) (old : List ℕ) → n ≤ length old → length (replicate n 0 ++ drop n old) ≡ length old
-cleared-length n old l = length-front old (replicate n 0) n (length-replicate n 0 ∙ sym (length-take-le n old l))
 
 -- ---- the stage count
 

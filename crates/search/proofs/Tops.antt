@@ -17,7 +17,7 @@ use Rattle.model.specs.Bounds.{Lower}
 use Rattle.model.specs.Search.{answer, probes, Request, Outcome, ended, tryInterval, sweep}
 use Rattle.model.proofs.File.{accepted-ok}
 use Rattle.model.proofs.Legality.{legal-nil}
-use Rattle.model.proofs.Table.{table-nil}
+use Rattle.model.proofs.Table.{table-nil, cells-nothing}
 use Rattle.search.specs.Tree.{resOf, run}
 use Rattle.search.specs.Descent.{tell, Wrote, Ready, Done, below}
 use Rattle.search.specs.Sweep.{Clear, outcomeOf, SweptIs, Ranged}
@@ -37,17 +37,6 @@ up-cons ii cap l = let z : suc cap - ii ≡ suc (suc cap - suc ii) = omega arith
 up-end : (ii cap : ℕ) → cap < ii → upFrom ii (suc cap - ii) ≡ []
 unfolding upFrom
 up-end ii cap l = let z : suc cap - ii ≡ 0 = omega arith in ap (upFrom ii) z
-
--- ---- the empty prefix
-
--- where nothing is placed there are no cells
-cells-nothing : (l : Loop) (ii : ℕ) → cellsOf l ii (placed []) ≡ []
-unfolding cellsOf flatMap
-cells-nothing l ii = none-of (upFrom 0 (size l))
-  where
-    none-of : (os : List ℕ) → flatMap (λ o. opCells ii (opAt l o) (placed [] o)) os ≡ []
-    none-of [] = refl
-    none-of (o ∷ os) = none-of os
 
 -- ---- one interval
 
@@ -148,7 +137,7 @@ module _ {f starts₀ rows₀ : List ℕ} {n least cap h budget : ℕ} (clear : 
         long = omega (arith, clear .room, pass .same-length);
         early = λ o l. absurd (omega arith);
         held =
-            rw (cells-nothing (loopOf f) ii, pass .rows-same)
+            rw (cells-nothing (loopOf f) ii (placed []) (λ o. refl), pass .rows-same)
             (table-nil 2 ii rows₀ (omega (arith, clear .long, clear .capped)) (λ r l. clear .clear r (omega (arith, clear .capped))));
         fine = legal-nil (loopOf f) ii;
       }

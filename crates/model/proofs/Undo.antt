@@ -1,0 +1,270 @@
+-- Laws of lists of calls: what checkpoints keep, and the placed operations placed again in any order. Assumes nothing.
+use mathlib.Core.Path.{_≡_, refl, sym, ap, _∙_, fun-ext}
+use mathlib.Core.Bool.{Bool, true, false, cond, _||_}
+use mathlib.Core.List.{List, [], _∷_, flatMap}
+use mathlib.Core.Option.{Option, none, some}
+use Prim.Native.Nat.{ℕ, _+_, _-_, _≤_, _<_}
+use native.Mathlib.Decide.{ℕ-discrete, decLt}
+use native.Mathlib.Omega.{arith}
+use borrow.Author.Tests.{lt-leb, eq-eqb, ne-eqb, eqb-true, eqb-false}
+use lib.Dec.{eqb}
+use lib.ListN.{length, getD, set, take, replicate, length-append, length-take, length-set, length-replicate, List·getD-append, List·getD-eq-default}
+use lib.Seq.{getD-set-same, getD-set-other, getD-take, take-take, take-append-le, ext-getD}
+use Rattle.model.specs.Lists.{upFrom, any}
+use Rattle.model.specs.Refusals.{Refusal, firstRefusal, Answer, answered, settled}
+use Rattle.model.specs.Loop.{size, opAt, depAt}
+use Rattle.model.specs.Legality.{Placing, legalAt, placeAt, breaks, conflictsWith, fitsAt}
+use Rattle.model.specs.Table.{opCells, cellsOf, tableOf}
+use Rattle.model.specs.Session.{Setup, Starts, State, start, placedIn, stateTable, Call, place, force, remove, checkpoint, release, rollback, Reply, done, numbered, isPlaced, firstBroken, selfClash, nowhere, checks, effect, stepAs, step, after, replies}
+use Rattle.model.specs.Undo.{gives, NoneGives, markedBy, startOr, placings, times, OrderOf, AllDone}
+use Rattle.model.proofs.Lists.{getD-filled, and-right, or-both, row-any, first-none}
+use Rattle.model.proofs.Legality.{Fits, fits-parts, Part, legal-part, legal-place}
+use Rattle.model.proofs.Table.{table-nil-all}
+use Rattle.model.proofs.Session.{step-done, rollback-done, state-same, marked, wentBack, back-newest}
+
+-- ---- back to a checkpoint
+
+-- where checkpoint m is open, going back to it gives `last`
+abbrev Keeps : ℕ → State → State → Type 0
+Keeps m st last = m ≤ length (st .checkpoints) → wentBack m st ≡ last
+
+module _ (u : Setup) (m : ℕ) (low : 1 ≤ m) where
+  -- so it does where it is still open among the first k
+  keeps-first : (k : ℕ) (xs : Starts) (st last : State) → Keeps m st last → Keeps m (record { starts = xs; checkpoints = take k (st .checkpoints) }) last
+  keeps-first k xs st last h l =
+      let long = length-take k (st .checkpoints) in
+      state-same (getD-take k (st .checkpoints) (m - 1) [] (omega arith)) (take-take m k (st .checkpoints) (omega arith)) ∙ h (omega arith)
+
+  -- and after every call, unless that gives m anew: then it gives the state after that call
+  keeps-effect : (c : Call) (st last : State) → Keeps m st last → Keeps m (effect u c st .0) (cond (gives m (answered (effect u c st .1))) (effect u c st .0) last)
+  keeps-effect (place o t) st last h = h
+  keeps-effect (force o t) st last h = h
+  keeps-effect (remove o) st last h = h
+  keeps-effect checkpoint st last h = pick (eqb (length (st .checkpoints) + 1) m) refl
+    where
+      long : length (marked st .checkpoints) ≡ length (st .checkpoints) + 1
+      long = length-append (st .checkpoints) (st .starts ∷ [])
+
+      pick : (b : Bool) → eqb (length (st .checkpoints) + 1) m ≡ b → Keeps m (marked st) (cond b (marked st) last)
+      pick true q l = back-newest m st (sym (eqb-true _ _ q))
+      pick false q l =
+          let k : m ≤ length (st .checkpoints) = omega (arith, long, eqb-false (length (st .checkpoints) + 1) m q) in
+          state-same (List·getD-append (st .checkpoints) (st .starts ∷ []) [] (m - 1) (omega arith)) (take-append-le m (st .checkpoints) (st .starts ∷ []) k) ∙ h k
+  keeps-effect release st last h = keeps-first (length (st .checkpoints) - 1) (st .starts) st last h
+  keeps-effect (rollback k) st last h = keeps-first k (getD (st .checkpoints) (k - 1) []) st last h
+
+  keeps-step : (c : Call) (st last : State) → Keeps m st last → Keeps m (step u c st .0) (cond (gives m (step u c st .1)) (step u c st .0) last)
+  unfolding step
+  keeps-step c st last h = pick (firstRefusal (checks u c st))
+    where
+      pick : (x : Option Refusal)
+          → Keeps m (stepAs st (settled x (effect u c st)) .0) (cond (gives m (stepAs st (settled x (effect u c st)) .1)) (stepAs st (settled x (effect u c st)) .0) last)
+      pick none = keeps-effect c st last h
+      pick (some r) = h
+
+  -- after a list of calls, it gives the state just after the last call that gave m
+  keeps-after : (cs : List Call) (st last : State) → Keeps m st last → Keeps m (after u cs st) (markedBy u m cs st last)
+  unfolding after markedBy
+  keeps-after [] st last h = h
+  keeps-after (c ∷ cs) st last h = keeps-after cs (step u c st .0) (cond (gives m (step u c st .1)) (step u c st .0) last) (keeps-step c st last h)
+
+-- rolling back to an open checkpoint, after any calls from a state without one: it is done, and gives the state just after the last checkpoint call that answered m
+pub back-to : (u : Setup) (m : ℕ) (cs : List Call) (st : State) → length (st .checkpoints) ≡ 0 → 1 ≤ m → m ≤ length (after u cs st .checkpoints)
+    → step u (rollback m) (after u cs st) ≡ (markedBy u m cs st st, answered done)
+back-to u m cs st e low high =
+    rollback-done u (after u cs st) m low high
+    ∙ ap (λ (x : State). (x, answered done)) (keeps-after u m low cs st st (λ l. absurd (omega arith)) high)
+
+-- where no call gave m, the last that did came before
+marked-none : (u : Setup) (m : ℕ) (cs : List Call) (st last : State) → NoneGives m (replies u cs st) → markedBy u m cs st last ≡ last
+unfolding markedBy replies
+marked-none u m [] st last h = refl
+marked-none u m (c ∷ cs) st last h = rw (h .0) (marked-none u m cs (step u c st .0) last (h .1))
+
+-- a checkpoint call that answered m made m the newest
+checkpoint-newest : (u : Setup) (m : ℕ) (st : State) → step u checkpoint st .1 ≡ answered (numbered m)
+    → (step u checkpoint st .0 ≡ marked st) × (m ≡ length (st .checkpoints) + 1)
+unfolding step
+checkpoint-newest u m st = pick (firstRefusal (checks u checkpoint st))
+  where
+    pick : (x : Option Refusal) → stepAs st (settled x (effect u checkpoint st)) .1 ≡ answered (numbered m)
+        → (stepAs st (settled x (effect u checkpoint st)) .0 ≡ marked st) × (m ≡ length (st .checkpoints) + 1)
+    pick none e = (refl, cc)
+    pick (some r) e = let z : _≡_ {A = ℕ} 0 1 = cc in absurd (omega arith)
+
+-- rolling back to m after a checkpoint call that answered m and calls none of which did: where m is still open, it gives the state just after that call
+pub back-pure : (u : Setup) (m : ℕ) (cs : List Call) (st : State) → step u checkpoint st .1 ≡ answered (numbered m)
+    → NoneGives m (replies u cs (step u checkpoint st .0)) → m ≤ length (after u cs (step u checkpoint st .0) .checkpoints)
+    → step u (rollback m) (after u cs (step u checkpoint st .0)) .0 ≡ step u checkpoint st .0
+back-pure u m cs st e h high =
+    let w = checkpoint-newest u m st e in
+    let low : 1 ≤ m = omega (arith, w .1) in
+    let then : State = step u checkpoint st .0 in
+    ap (λ (x : State × Answer Reply). x .0) (rollback-done u (after u cs then) m low high)
+    ∙ keeps-after u m low cs then then (λ l. rw (w .0) (back-newest m st (w .1))) high
+    ∙ marked-none u m cs then then h
+
+-- ---- a session just opened
+
+-- nothing is placed
+pub start-nowhere : (n : ℕ) → placedIn (replicate n none) ≡ nowhere
+start-nowhere n = fun-ext (λ o. getD-filled n o none)
+
+-- so its table is zeros
+pub start-table : (u : Setup) → stateTable u (start u) ≡ replicate (u .ii) 0
+unfolding cellsOf flatMap
+start-table u =
+    ap (λ (f : Placing). tableOf 2 (u .ii) (cellsOf (u .loop) (u .ii) f)) (start-nowhere (size (u .loop)))
+    ∙ ap (tableOf 2 (u .ii)) (go (upFrom 0 (size (u .loop)))) ∙ table-nil-all 2 (u .ii)
+  where
+    go : (os : List ℕ) → flatMap (λ o. opCells (u .ii) (opAt (u .loop) o) none) os ≡ []
+    go [] = refl
+    go (o ∷ os) = go os
+
+-- ---- an operation that is placed
+
+-- a list with the start t put in place o says its placing with o at t
+pub placed-set : (ys : Starts) (o t : ℕ) → o < length ys → placedIn (set ys o (some t)) ≡ placeAt (placedIn ys) o t
+placed-set ys o t l = fun-ext (λ p. go p (ℕ-discrete p o))
+  where
+    go : (p : ℕ) → Dec (p ≡ o) → placedIn (set ys o (some t)) p ≡ placeAt (placedIn ys) o t p
+    go p (yes e) = rw (e, getD-set-same ys o (some t) none l, eq-eqb o o refl)
+    go p (no n) = rw (getD-set-other ys o p (some t) none n, ne-eqb p o n)
+
+-- an operation that is not placed and fits below the horizon is placed
+pub place-done : (u : Setup) (st : State) (o t : ℕ) → o < size (u .loop) → getD (st .starts) o none ≡ none → t < u .horizon
+    → fitsAt (u .loop) (u .ii) (placedIn (st .starts)) o t ≡ true
+    → step u (place o t) st ≡ (record { starts = set (st .starts) o (some t); checkpoints = st .checkpoints }, answered done)
+unfolding firstRefusal firstBroken
+place-done u st o t inside free near fits =
+    step-done u (place o t) st (rw (lt-leb (size (u .loop)) o inside, free, lt-leb (u .horizon) t near, unbroken, clear))
+  where
+    f : Placing
+    f = placedIn (st .starts)
+
+    parts : Fits (u .loop) (u .ii) (placedIn (st .starts)) o t
+    parts = fits-parts (u .loop) (u .ii) f o t fits
+
+    unbroken : firstBroken u (placedIn (st .starts)) o t ≡ none
+    unbroken =
+        first-none (λ e. breaks (u .ii) f o t (depAt (u .loop) e)) (upFrom 0 (length (u .loop .deps)))
+        (row-any (λ e. breaks (u .ii) f o t (depAt (u .loop) e)) 0 (length (u .loop .deps)) (λ e l m. parts .kept e (omega arith)))
+
+    clear : (selfClash u o || any (conflictsWith (u .loop) (u .ii) (placedIn (st .starts)) o t) (upFrom 0 (size (u .loop)))) ≡ false
+    clear =
+        or-both (selfClash u o) (any (conflictsWith (u .loop) (u .ii) f o t) (upFrom 0 (size (u .loop)))) (parts .self)
+        (row-any (conflictsWith (u .loop) (u .ii) f o t) 0 (size (u .loop)) (λ p l m. parts .clear p (omega arith)))
+
+-- ---- the placed operations, placed again
+
+-- starts that a session can come to
+pub record Good (u : Setup) (xs : Starts) : Type 0 where
+  pub whole : length xs ≡ size (u .loop)
+  pub near : (o t : ℕ) → getD xs o none ≡ some t → t < u .horizon
+  pub fine : legalAt (u .loop) (u .ii) (placedIn xs) ≡ true
+
+-- the operations os are left: each stands there once and is placed in xs, and ys has the others as xs does
+record Left (xs : Starts) (os : List ℕ) (ys : Starts) : Type 0 where
+  whole : length ys ≡ length xs
+  once : (o : ℕ) → times o os ≤ cond (isPlaced (getD xs o none)) 1 0
+  at : (o : ℕ) → getD ys o none ≡ cond (eqb (times o os) 0) (getD xs o none) none
+
+-- how often an operation stands in a list with one more in front
+times-same : (o : ℕ) (os : List ℕ) → times o (o ∷ os) ≡ 1 + times o os
+unfolding times
+times-same o os = rw (eq-eqb o o refl)
+
+times-other : (o p : ℕ) (os : List ℕ) → (p ≡ o → ⊥) → times p (o ∷ os) ≡ times p os
+unfolding times
+times-other o p os n = rw (ne-eqb o p (λ e. n (sym e))) (omega arith)
+
+-- a start that stands in a list
+placed-inside : (xs : Starts) (o t : ℕ) → getD xs o none ≡ some t → o < length xs
+placed-inside xs o t e = pick (decLt o (length xs))
+  where
+    pick : Dec (o < length xs) → o < length xs
+    pick (yes l) = l
+    pick (no n) =
+        let q : getD xs o none ≡ none = List·getD-eq-default xs none (omega arith) in
+        let z : _≡_ {A = ℕ} 0 1 = cc in absurd (omega arith)
+
+module _ (u : Setup) (xs : Starts) (good : Good u xs) where
+  module _ (o : ℕ) (os : List ℕ) (ys : Starts) (h : Left xs (o ∷ os) ys) where
+    -- the first that is left has a start, and does not stand among the others
+    head-is : (getD xs o none ≡ some (startOr (getD xs o none))) × (times o os ≡ 0)
+    head-is = pick (getD xs o none) (times o os) (omega (arith, h .once o, times-same o os))
+      where
+        pick : (x : Option ℕ) (n : ℕ) → 1 + n ≤ cond (isPlaced x) 1 0 → (x ≡ some (startOr x)) × (n ≡ 0)
+        pick none n l = absurd (omega arith)
+        pick (some t) n l = (refl, omega arith)
+
+    -- it is an operation
+    head-inside : o < length ys
+    head-inside = omega (arith, h .whole, placed-inside xs o (startOr (getD xs o none)) (head-is .0))
+
+    -- that is not yet placed
+    head-free : getD ys o none ≡ none
+    head-free =
+        h .at o ∙ ap (λ (b : Bool). cond b (getD xs o none) none) (ne-eqb (times o (o ∷ os)) 0 (λ e. omega (arith, times-same o os)))
+
+    -- with it placed, the others are left
+    left-next : Left xs os (set ys o (some (startOr (getD xs o none))))
+    left-next = record {
+      whole = length-set ys o (some (startOr (getD xs o none))) ∙ h .whole;
+      once = λ p. below p (ℕ-discrete p o);
+      at = λ p. go p (ℕ-discrete p o);
+    }
+      where
+        below : (p : ℕ) → Dec (p ≡ o) → times p os ≤ cond (isPlaced (getD xs p none)) 1 0
+        below p (yes e) = rw e (omega (arith, head-is .1))
+        below p (no n) = omega (arith, h .once p, times-other o p os n)
+
+        go : (p : ℕ) → Dec (p ≡ o) → getD (set ys o (some (startOr (getD xs o none)))) p none ≡ cond (eqb (times p os) 0) (getD xs p none) none
+        go p (yes e) = rw (e, getD-set-same ys o (some (startOr (getD xs o none))) none head-inside, head-is .1) (sym (head-is .0))
+        go p (no n) = getD-set-other ys o p (some (startOr (getD xs o none))) none n ∙ h .at p ∙ rw (times-other o p os n)
+
+  -- what is placed is a part
+  left-part : (os : List ℕ) (ys : Starts) → Left xs os ys → Part (placedIn ys) (placedIn xs)
+  left-part os ys h = record { same = λ o t e. go o t (eqb (times o os) 0) (sym (h .at o) ∙ e) }
+    where
+      go : (o t : ℕ) (b : Bool) → cond b (getD xs o none) none ≡ some t → getD xs o none ≡ some t
+      go o t true e = e
+      go o t false e = let z : _≡_ {A = ℕ} 0 1 = cc in absurd (omega arith)
+
+  -- so the next one fits, and is placed
+  next-done : (o : ℕ) (os : List ℕ) (st : State) → Left xs (o ∷ os) (st .starts)
+      → step u (place o (startOr (getD xs o none))) st
+      ≡ (record { starts = set (st .starts) o (some (startOr (getD xs o none))); checkpoints = st .checkpoints }, answered done)
+  next-done o os st h =
+      let ys : Starts = st .starts in
+      let t : ℕ = startOr (getD xs o none) in
+      let inside : o < size (u .loop) = omega (arith, good .whole, h .whole, head-inside o os ys h) in
+      let legal : legalAt (u .loop) (u .ii) (placeAt (placedIn ys) o t) ≡ true =
+      ap (legalAt (u .loop) (u .ii)) (sym (placed-set ys o t (head-inside o os ys h)))
+      ∙ legal-part (u .loop) (u .ii) _ (placedIn xs) (left-part os _ (left-next o os ys h)) (good .fine) in
+      place-done u st o t inside (head-free o os ys h) (good .near o t (head-is o os ys h .0))
+      (and-right (legalAt (u .loop) (u .ii) (placedIn ys)) _ (sym (legal-place (u .loop) (u .ii) (placedIn ys) o t inside (head-free o os ys h)) ∙ legal))
+
+  -- and so are all
+  replay-from : (os : List ℕ) (st : State) → Left xs os (st .starts)
+      → AllDone (replies u (placings xs os) st) × (after u (placings xs os) st ≡ record { starts = xs; checkpoints = st .checkpoints })
+  unfolding after replies placings times
+  replay-from [] st h = (tt, state-same (ext-getD none (st .starts) xs (h .whole) (λ o l. h .at o)) refl)
+  replay-from (o ∷ os) st h =
+      let t : ℕ = startOr (getD xs o none) in
+      let ih = replay-from os (record { starts = set (st .starts) o (some t); checkpoints = st .checkpoints }) (left-next o os (st .starts) h) in
+      let e = next-done o os st h in
+      (rw e (refl, ih .0), ap (λ (x : State × Answer Reply). after u (placings xs os) (x .0)) e ∙ ih .1)
+
+  -- the operations of good starts, placed in any order on a session just opened: each is accepted, and they are those starts
+  pub replay : (os : List ℕ) → OrderOf xs os
+      → AllDone (replies u (placings xs os) (start u)) × (after u (placings xs os) (start u) ≡ record { starts = xs; checkpoints = [] })
+  replay os h = replay-from os (start u) (record {
+    whole = length-replicate (size (u .loop)) none ∙ sym (good .whole);
+    once = λ o. omega (arith, h o);
+    at = λ o. ap (λ (f : Placing). f o) (start-nowhere (size (u .loop))) ∙ first (getD xs o none) ∙ ap (λ (n : ℕ). cond (eqb n 0) (getD xs o none) none) (sym (h o));
+  })
+    where
+      first : (x : Option ℕ) → none ≡ cond (eqb (cond (isPlaced x) 1 0) 0) x none
+      first none = refl
+      first (some t) = refl
