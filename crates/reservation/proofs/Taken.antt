@@ -8,7 +8,7 @@ use native.Mathlib.Omega.{arith}
 use lib.ListN.{length, getD}
 use Rattle.model.specs.Lists.{first}
 use Rattle.model.specs.Loop.{Use, noUse}
-use Rattle.reservation.specs.Place.{takenAt, takenIn, slotIn, firstTaken, placeOf, placeIs}
+use Rattle.reservation.specs.Place.{takenIn, rowAt, takenAt, slotIn, firstTaken, placeOf, placeIs}
 use Rattle.reservation.specs.declared.Place.{Place}
 use Rattle.reservation.specs.declared.Place.the-variants.{Free, Taken}
 use Rattle.model.proofs.Firsts.{grid-not, grid-at}
@@ -25,17 +25,17 @@ slot-none p (u ∷ us) h e = pick (p u) e (slot-none p us (λ j l. h (suc j) (om
 
 module _ (ii : ℕ) (rows : List ℕ) (s : ℕ) (us : List Use) where
   -- nothing is found in cycle k where the slot r that is found is 0
-  pub taken-none : (k r : ℕ) → ((j : ℕ) → j < length us → 1 ≤ getD us j noUse .slot) → r ≡ slotIn (takenIn ii rows s k us) → r ≤ 0 → takenIn ii rows s k us ≡ none
+  pub taken-none : (k r : ℕ) → ((j : ℕ) → j < length us → 1 ≤ getD us j noUse .slot) → r ≡ slotIn (takenIn ii (rowAt ii rows s k) k us) → r ≤ 0 → takenIn ii (rowAt ii rows s k) k us ≡ none
   unfolding takenIn
   taken-none k r h e z = slot-none (takenAt ii rows s k) us h (omega arith)
 
   -- nothing is found in any cycle
-  pub place-free : ((k : ℕ) → k < 16 → takenIn ii rows s k us ≡ none) → placeIs (firstTaken ii rows s us) ≡ none
+  pub place-free : ((k : ℕ) → k < 16 → takenIn ii (rowAt ii rows s k) k us ≡ none) → placeIs (firstTaken ii rows s us) ≡ none
   unfolding takenIn firstTaken
   place-free h = ap placeIs (grid-not (takenAt ii rows s) us 16 h)
 
   -- nothing in those below k, and in k something in slot r
-  pub place-taken : (k r : ℕ) → k < 16 → ((j : ℕ) → j < k → takenIn ii rows s j us ≡ none) → r ≡ slotIn (takenIn ii rows s k us) → 0 < r
+  pub place-taken : (k r : ℕ) → k < 16 → ((j : ℕ) → j < k → takenIn ii (rowAt ii rows s j) j us ≡ none) → r ≡ slotIn (takenIn ii (rowAt ii rows s k) k us) → 0 < r
       → placeIs (firstTaken ii rows s us) ≡ some (k, r)
   unfolding takenIn firstTaken
   place-taken k r l h e m = pick (first (takenAt ii rows s k) us) refl e

@@ -13,13 +13,21 @@ use Rattle.model.specs.Table.{digitOf}
 use Rattle.reservation.specs.declared.Place.{Place}
 use Rattle.reservation.specs.declared.Place.the-variants.{Free, Taken}
 
--- use u of an operation started at s meets in cycle k a cell that is taken: its bit is set, or the use itself covered it ii cycles before
-abbrev pub takenAt : ℕ → List ℕ → ℕ → ℕ → Use → Bool
-takenAt ii rows s k u = covers k u && (eqb (digitOf 2 (getD rows ((s + k) % ii) 0) (u .slot)) 1 || leb (u .offset + ii) k)
+-- use u meets in cycle k, which falls into the row given, a cell that is taken: its bit is set, or the use itself covered it ii cycles before
+abbrev pub takenBy : ℕ → ℕ → ℕ → Use → Bool
+takenBy ii row k u = covers k u && (eqb (digitOf 2 row (u .slot)) 1 || leb (u .offset + ii) k)
 
--- the first use that does so in cycle k
-unfoldable pub takenIn : ℕ → List ℕ → ℕ → ℕ → List Use → Option Use
-takenIn ii rows s k us = first (takenAt ii rows s k) us
+-- the first use that does so
+unfoldable pub takenIn : ℕ → ℕ → ℕ → List Use → Option Use
+takenIn ii row k us = first (takenBy ii row k) us
+
+-- the row of cycle k of an operation started at s
+abbrev pub rowAt : ℕ → List ℕ → ℕ → ℕ → ℕ
+rowAt ii rows s k = getD rows ((s + k) % ii) 0
+
+-- use u of an operation started at s does so in cycle k
+abbrev pub takenAt : ℕ → List ℕ → ℕ → ℕ → Use → Bool
+takenAt ii rows s k u = takenBy ii (rowAt ii rows s k) k u
 
 -- its slot, and 0 where there is none
 abbrev pub slotIn : Option Use → ℕ

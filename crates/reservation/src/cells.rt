@@ -1,13 +1,13 @@
-// Reserving and releasing the cells of an operation, bit by bit.
+// Reserving and releasing the cells of an operation, bit by bit. The number of the operation's first use, `first`, is handed in: it is worked out once for each chosen
+// operation, which is reserved and released at many starts.
 use loop_file::access::duration;
-use loop_file::access::first_use;
 use loop_file::access::offset;
 use loop_file::access::slot;
 use loop_file::access::use_count;
 ghost use mathlib.Core.Path.{_≡_};
 ghost use Prim.Native.Nat.{_<_, _≤_};
 ghost use lib.ListN.{length};
-ghost use Rattle.model.specs.Loop.{size, opAt};
+ghost use Rattle.model.specs.Loop.{size, opAt, firstUseOf};
 ghost use Rattle.model.specs.File.{loopOf, Accepted};
 ghost use Rattle.reservation.specs.Rows.{changed, overUse, overUses, withBit, lessBit, BitIs, UseIn, UsesIn};
 
@@ -52,11 +52,17 @@ fn release_use(rows: &mut [u64], interval: usize, start: usize, n: usize, slot: 
 }
 
 // Reserves the cells of an operation that fits.
-pub fn reserve(file: &[u8], op: usize, start: usize, interval: usize, rows: &mut [u64])
-    requires { ⌜ Accepted (now file) × (op < size (loopOf (now file))) × UsesIn 0 (now rows) interval start (opAt (loopOf (now file)) op .uses) ⌝ }
+pub fn reserve(
+    file: &[u8],
+    op: usize,
+    first: usize,
+    start: usize,
+    interval: usize,
+    rows: &mut [u64],
+)
+    requires { ⌜ Accepted (now file) × (op < size (loopOf (now file))) × UsesIn 0 (now rows) interval start (opAt (loopOf (now file)) op .uses) × (first ≡ firstUseOf (loopOf (now file)) op) ⌝ }
     ensures { λ _. ⌜ now (rows .exit) ≡ overUses withBit interval start (opAt (loopOf (now (file .entry))) op .uses) (length (opAt (loopOf (now (file .entry))) op .uses)) (now (rows .entry)) ⌝ }
 {
-    let first = first_use(file, op);
     let n = use_count(file, op);
     let mut j = 0;
     while j < n {
@@ -73,11 +79,17 @@ pub fn reserve(file: &[u8], op: usize, start: usize, interval: usize, rows: &mut
 }
 
 // Releases the cells of an operation that are reserved.
-pub fn release(file: &[u8], op: usize, start: usize, interval: usize, rows: &mut [u64])
-    requires { ⌜ Accepted (now file) × (op < size (loopOf (now file))) × UsesIn 1 (now rows) interval start (opAt (loopOf (now file)) op .uses) ⌝ }
+pub fn release(
+    file: &[u8],
+    op: usize,
+    first: usize,
+    start: usize,
+    interval: usize,
+    rows: &mut [u64],
+)
+    requires { ⌜ Accepted (now file) × (op < size (loopOf (now file))) × UsesIn 1 (now rows) interval start (opAt (loopOf (now file)) op .uses) × (first ≡ firstUseOf (loopOf (now file)) op) ⌝ }
     ensures { λ _. ⌜ now (rows .exit) ≡ overUses lessBit interval start (opAt (loopOf (now (file .entry))) op .uses) (length (opAt (loopOf (now (file .entry))) op .uses)) (now (rows .entry)) ⌝ }
 {
-    let first = first_use(file, op);
     let n = use_count(file, op);
     let mut j = 0;
     while j < n {

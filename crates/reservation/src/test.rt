@@ -1,7 +1,7 @@
-// The conflict test: an operation against the rows and against itself. It keeps no array of rows.
+// The conflict test: an operation against the rows and against itself. It keeps no array of rows, and reads the row of a cycle once, for all uses. The number of the
+// operation's first use, `first`, is handed in: it is worked out once for each chosen operation, which is tested at many starts.
 use crate::Place;
 use loop_file::access::duration;
-use loop_file::access::first_use;
 use loop_file::access::offset;
 use loop_file::access::slot;
 use loop_file::access::use_count;
@@ -9,14 +9,14 @@ ghost use mathlib.Core.Path.{_≡_};
 ghost use mathlib.Core.Option.{Option};
 ghost use Prim.Native.Nat.{_+_, _<_, _≤_};
 ghost use lib.ListN.{length, getD};
-ghost use Rattle.model.specs.Loop.{noUse, size, opAt, allUses};
+ghost use Rattle.model.specs.Loop.{noUse, size, opAt, allUses, firstUseOf};
 ghost use Rattle.model.specs.File.{loopOf, Accepted};
-ghost use Rattle.reservation.specs.Place.{takenAt, takenIn, firstTaken, placeOf, placeIs, slotIn};
+ghost use Rattle.reservation.specs.Place.{takenBy, takenIn, firstTaken, placeOf, placeIs, slotIn};
 
-// Whether use u of all, of an operation started at `start`, meets a taken cell in cycle k.
-fn taken(file: &[u8], u: usize, start: usize, k: usize, interval: usize, rows: &[u64]) -> bool
-    requires { ⌜ Accepted (now file) × (u < length (allUses (loopOf (now file)))) × (start ≤ 4096) × (k < 16) × (1 ≤ interval) × (interval ≤ 4096) × (interval ≤ length (now rows)) ⌝ }
-    ensures { λ r. ⌜ r ≡ takenAt interval (now (rows .entry)) start k (getD (allUses (loopOf (now (file .entry)))) u noUse) ⌝ }
+// Whether use u of all meets a taken cell in cycle k of its operation, which falls into the row given.
+fn taken(file: &[u8], u: usize, k: usize, interval: usize, row: u64) -> bool
+    requires { ⌜ Accepted (now file) × (u < length (allUses (loopOf (now file)))) × (k < 16) × (interval ≤ 4096) ⌝ }
+    ensures { λ r. ⌜ r ≡ takenBy interval row k (getD (allUses (loopOf (now (file .entry)))) u noUse) ⌝ }
 {
     let from = offset(file, u);
     if k < from {
@@ -28,20 +28,18 @@ fn taken(file: &[u8], u: usize, start: usize, k: usize, interval: usize, rows: &
     if from + interval <= k {
         return true;
     }
-    let row = rows[(start + k) % interval];
     (row >> (slot(file, u) - 1)) & 1 == 1
 }
 
-// The lowest slot in which the operation meets a taken cell in cycle k, 0 where there is none.
-fn taken_in(file: &[u8], op: usize, start: usize, k: usize, interval: usize, rows: &[u64]) -> usize
-    requires { ⌜ Accepted (now file) × (op < size (loopOf (now file))) × (start ≤ 4096) × (k < 16) × (1 ≤ interval) × (interval ≤ 4096) × (interval ≤ length (now rows)) ⌝ }
-    ensures { λ r. ⌜ r ≡ slotIn (takenIn interval (now (rows .entry)) start k (opAt (loopOf (now (file .entry))) op .uses)) ⌝ }
+// The lowest slot in which the operation meets a taken cell in cycle k, which falls into the row given; 0 where there is none.
+fn taken_in(file: &[u8], op: usize, first: usize, k: usize, interval: usize, row: u64) -> usize
+    requires { ⌜ Accepted (now file) × (op < size (loopOf (now file))) × (k < 16) × (interval ≤ 4096) × (first ≡ firstUseOf (loopOf (now file)) op) ⌝ }
+    ensures { λ r. ⌜ r ≡ slotIn (takenIn interval row k (opAt (loopOf (now (file .entry))) op .uses)) ⌝ }
 {
-    let first = first_use(file, op);
     let n = use_count(file, op);
     let mut j = 0;
     while j < n {
-        if taken(file, first + j, start, k, interval, rows) {
+        if taken(file, first + j, k, interval, row) {
             return slot(file, first + j);
         }
         j = j + 1;
@@ -50,13 +48,20 @@ fn taken_in(file: &[u8], op: usize, start: usize, k: usize, interval: usize, row
 }
 
 // The first place in which the operation, started at `start`, meets a taken cell.
-pub fn conflict(file: &[u8], op: usize, start: usize, interval: usize, rows: &[u64]) -> Place
-    requires { ⌜ Accepted (now file) × (op < size (loopOf (now file))) × (start ≤ 4096) × (1 ≤ interval) × (interval ≤ 4096) × (interval ≤ length (now rows)) ⌝ }
+pub fn conflict(
+    file: &[u8],
+    op: usize,
+    first: usize,
+    start: usize,
+    interval: usize,
+    rows: &[u64],
+) -> Place
+    requires { ⌜ Accepted (now file) × (op < size (loopOf (now file))) × (start ≤ 4096) × (1 ≤ interval) × (interval ≤ 4096) × (interval ≤ length (now rows)) × (first ≡ firstUseOf (loopOf (now file)) op) ⌝ }
     ensures { λ r. ⌜ placeOf r ≡ placeIs (firstTaken interval (now (rows .entry)) start (opAt (loopOf (now (file .entry))) op .uses)) ⌝ }
 {
     let mut k = 0;
     while k < 16 {
-        let s = taken_in(file, op, start, k, interval, rows);
+        let s = taken_in(file, op, first, k, interval, rows[(start + k) % interval]);
         if 0 < s {
             return Place::Taken(k, s);
         }

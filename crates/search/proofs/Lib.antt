@@ -9,3 +9,4 @@ pub mod Requests
 pub mod Steps
 pub mod Tops
 pub mod Attempts
+pub mod Promises

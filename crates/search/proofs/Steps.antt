@@ -12,7 +12,7 @@ use borrow.Author.Tests.{lt-ltb, le-ltb, le-leb, lt-leb}
 use lib.Dec.{leb, ltb}
 use lib.ListN.{length, take, getD, set, length-set}
 use lib.Seq.{append-snoc, take-suc-set, take-take, take-set-le, length-take-le, getD-take, getD-set-same, getD-set-other}
-use Rattle.model.specs.Loop.{Use, Op, Loop, size, opAt, LoopOk}
+use Rattle.model.specs.Loop.{Use, Op, Loop, size, opAt, firstUseOf, LoopOk}
 use Rattle.model.specs.File.{loopOf}
 use Rattle.model.specs.Legality.{Placing, placed, legalAt, legal, placeAt, fitsAt}
 use Rattle.model.specs.Table.{cellsOf, IsTable, Digits}
@@ -196,10 +196,11 @@ module _ {f starts₀ rows₀ : List ℕ} {op n ii h : ℕ} (ready : Ready f sta
 
     module _ (from to : ℕ) (w : WindowIs (loopOf f) ii (take op starts₀) h (length (loopOf f .deps)) from to) (o : op < n) (l : s < h) where
       -- a start inside the window may be tried
-      pub may-try : from ≤ s → s < to → Ready f starts rows op n ii h × (op < n) × (s < h) × (allowed (loopOf f) ii (take op starts) (length (loopOf f .deps)) s ≡ true)
-      may-try i j =
+      pub may-try : from ≤ s → s < to → {first : ℕ} → first ≡ firstUseOf (loopOf f) op
+          → Ready f starts rows op n ii h × (op < n) × (s < h) × (allowed (loopOf f) ii (take op starts) (length (loopOf f .deps)) s ≡ true) × (first ≡ firstUseOf (loopOf f) op)
+      may-try i j e =
           let k = length (loopOf f .deps) in
-          (still, o, l, ap (λ (xs : List ℕ). allowed (loopOf f) ii xs k s) (turn .kept) ∙ in-window (loopOf f) ii (take op starts₀) h k from to s w l i j)
+          (still, o, l, ap (λ (xs : List ℕ). allowed (loopOf f) ii xs k s) (turn .kept) ∙ in-window (loopOf f) ii (take op starts₀) h k from to s w l i j, e)
 
       -- one outside it takes its probe
       pub skips : (purse ≡ 0 → ⊥) → (s < from) ⊎ (to ≤ s) → Turn f starts₀ rows₀ op n ii h left starts rows (purse - 1) (s + 1)
@@ -274,8 +275,8 @@ module _ {f starts₀ rows₀ : List ℕ} {op n ii h : ℕ} (ready : Ready f sta
 
 -- ---- one start, which the dependences allow
 
-module _ {f starts rows : List ℕ} {op n ii h s : ℕ}
-    (asked : Ready f starts rows op n ii h × (op < n) × (s < h) × (allowed (loopOf f) ii (take op starts) (length (loopOf f .deps)) s ≡ true)) where
+module _ {f starts rows : List ℕ} {op n ii h s first : ℕ}
+    (asked : Ready f starts rows op n ii h × (op < n) × (s < h) × (allowed (loopOf f) ii (take op starts) (length (loopOf f .deps)) s ≡ true) × (first ≡ firstUseOf (loopOf f) op)) where
   -- where the search stands
   abbrev ready : Ready f starts rows op n ii h
   ready = asked .0

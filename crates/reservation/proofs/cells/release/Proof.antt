@@ -16,16 +16,13 @@ use Rattle.reservation.proofs.cells.release.Statement.{statement}
 use Rattle.reservation.proofs.cells.release.Tie as tie
 
 abbrev Inv-loop : tie.InvT-loop
-Inv-loop file op start interval rows₀ first n j₀ rows j = (j ≤ n) × (rows ≡ overUses lessBit interval start (opAt (loopOf file) op .uses) j rows₀)
+Inv-loop file op first start interval rows₀ n j₀ rows j = (j ≤ n) × (rows ≡ overUses lessBit interval start (opAt (loopOf file) op .uses) j rows₀)
 
 abbrev μ-loop : tie.MeasureT-loop
-μ-loop file op start interval rows₀ first n j₀ rows j = n - j
-
-first-use-requires : tie.Need-first-use-requires Inv-loop μ-loop
-first-use-requires c κs = let p = c .before .before .pre in (p .0, p .1)
+μ-loop file op first start interval rows₀ n j₀ rows j = n - j
 
 use-count-requires : tie.Need-use-count-requires Inv-loop μ-loop
-use-count-requires c κs = let p = c .before .before .before .pre in (p .0, p .1)
+use-count-requires c κs = let p = c .before .before .pre in (p .0, p .1)
 
 loop-holds : tie.Need-loop-holds Inv-loop μ-loop
 unfolding overUses
@@ -33,17 +30,17 @@ loop-holds c = (omega arith, refl)
 
 -- the function's entry, as a turn sees it
 abbrev entry : tie.In-loop Inv-loop μ-loop → tie.Start Inv-loop μ-loop
-entry c = c .before .before .before .before .before .before
+entry c = c .before .before .before .before .before
 
 -- the use whose turn it is
 abbrev now-use : tie.In-loop Inv-loop μ-loop → Use
 now-use c = useAt (opAt (loopOf (entry c .args .file .now)) (entry c .args .op)) (c .before .loop .j)
 
 here : (c : tie.In-loop Inv-loop μ-loop)
-    → UseHere (entry c .args .file .now) (entry c .args .op) (c .before .loop .j) (c .before .before .before .first-use .result + c .before .loop .j)
+    → UseHere (entry c .args .file .now) (entry c .args .op) (c .before .loop .j) (entry c .args .first + c .before .loop .j)
 here c =
-    use-here (entry c .args .file .now) (entry c .args .op) (c .before .loop .j) (c .before .before .before .first-use .result) (c .before .before .use-count .result)
-    (entry c .pre .0) (entry c .pre .1) (c .before .before .before .first-use .ensures) (c .before .before .use-count .ensures) (c .loop-test .taken)
+    use-here (entry c .args .file .now) (entry c .args .op) (c .before .loop .j) (entry c .args .first) (c .before .before .use-count .result)
+    (entry c .pre .0) (entry c .pre .1) (entry c .pre .3) (c .before .before .use-count .ensures) (c .loop-test .taken)
 
 add-u : tie.Need-add-u Inv-loop μ-loop
 add-u c = omega (arith, here c)
@@ -109,7 +106,6 @@ release-spec =
     (tie.spec
     Inv-loop
     μ-loop
-    first-use-requires
     use-count-requires
     loop-holds
     add-u

@@ -1,36 +1,34 @@
 -- `test::taken` meets its contract: the use is in range, since the file is accepted. Assumes nothing.
 use mathlib.Core.Path.{_≡_, sym, ap, _∙_}
 use mathlib.Core.Bool.{true, false, or-true, or-false, and-false}
-use mathlib.Core.List.{List}
-use Prim.Native.Nat.{ℕ, _+_, _-_, _%_, _/_, _^_, _≤_, _<_}
-use native.Mathlib.Nat.{mod-lt}
+use Prim.Native.Nat.{ℕ, _+_, _-_, _/_, _^_, _≤_, _<_}
 use native.Mathlib.Omega.{arith}
 use lib.Bits.{and-mask}
 use lib.Dec.{eqb, leb}
-use lib.ListN.{length, getD}
+use lib.ListN.{getD}
 use borrow.Author.Needs.{needs}
 use borrow.Author.Tests.{le-leb, lt-leb, lt-ltb, le-ltb}
 use Rattle.model.specs.Loop.{Use, UseOk, noUse, allUses}
 use Rattle.model.specs.File.{loopOf}
 use Rattle.model.specs.Table.{digitOf}
 use Rattle.model.proofs.File.{accepted-ok}
-use Rattle.reservation.specs.Place.{takenAt}
+use Rattle.reservation.specs.Place.{takenBy}
 use Rattle.model.proofs.Loop.{all-ok}
 use Rattle.reservation.proofs.test.taken.Statement.{statement}
 use Rattle.reservation.proofs.test.taken.Tie as tie
 
 -- the four ways out: the use does not cover the cycle yet, or no longer; it meets itself; or the row's bit says it
-module _ (ii : ℕ) (rows : List ℕ) (s k : ℕ) (u : Use) where
-  early : k < u .offset → takenAt ii rows s k u ≡ false
+module _ (ii row k : ℕ) (u : Use) where
+  early : k < u .offset → takenBy ii row k u ≡ false
   early h = rw (lt-leb (u .offset) k h)
 
-  late : u .offset + u .duration ≤ k → takenAt ii rows s k u ≡ false
+  late : u .offset + u .duration ≤ k → takenBy ii row k u ≡ false
   late h = rw (le-ltb k (u .offset + u .duration) h, and-false (leb (u .offset) k))
 
-  self : u .offset ≤ k → k < u .offset + u .duration → u .offset + ii ≤ k → takenAt ii rows s k u ≡ true
-  self p q h = rw (le-leb (u .offset) k p, lt-ltb k (u .offset + u .duration) q, le-leb (u .offset + ii) k h) (or-true (eqb (digitOf 2 (getD rows ((s + k) % ii) 0) (u .slot)) 1))
+  self : u .offset ≤ k → k < u .offset + u .duration → u .offset + ii ≤ k → takenBy ii row k u ≡ true
+  self p q h = rw (le-leb (u .offset) k p, lt-ltb k (u .offset + u .duration) q, le-leb (u .offset + ii) k h) (or-true (eqb (digitOf 2 row (u .slot)) 1))
 
-  bit : u .offset ≤ k → k < u .offset + u .duration → k < u .offset + ii → takenAt ii rows s k u ≡ eqb (digitOf 2 (getD rows ((s + k) % ii) 0) (u .slot)) 1
+  bit : u .offset ≤ k → k < u .offset + u .duration → k < u .offset + ii → takenBy ii row k u ≡ eqb (digitOf 2 row (u .slot)) 1
   bit p q h = rw (le-leb (u .offset) k p, lt-ltb k (u .offset + u .duration) q, lt-leb (u .offset + ii) k h) (or-false _)
 
 abbrev use-of : tie.Start → Use
@@ -40,7 +38,7 @@ use-ok : (s : tie.Start) → UseOk (use-of s)
 use-ok s = let f = s .args .file .now in all-ok (loopOf f) (accepted-ok f (s .pre .0)) (s .args .u) (s .pre .1)
 
 abbrev start : tie.After-offset → tie.Start
-start c = c .before .before .before
+start c = c .before .before
 
 offset-requires : tie.Need-offset-requires
 offset-requires c κs = search needs
@@ -48,7 +46,7 @@ offset-requires c κs = search needs
 returns : tie.Need-returns
 returns c =
     let s = start (c .before) in
-    sym (early (s .args .interval) (s .args .rows .now) (s .args .start) (s .args .k) (use-of s) (omega (arith, c .before .offset .ensures)))
+    sym (early (s .args .interval) (s .args .row) (s .args .k) (use-of s) (omega (arith, c .before .offset .ensures)))
 
 duration-requires : tie.Need-duration-requires
 duration-requires c κs = search needs
@@ -60,7 +58,7 @@ returns-2 : tie.Need-returns-2
 returns-2 c =
     let b = c .before in
     let s = start (b .before .before) in
-    sym (late (s .args .interval) (s .args .rows .now) (s .args .start) (s .args .k) (use-of s) (omega (arith, b .before .before .offset .ensures, b .duration .ensures)))
+    sym (late (s .args .interval) (s .args .row) (s .args .k) (use-of s) (omega (arith, b .before .before .offset .ensures, b .duration .ensures)))
 
 -- past the first two tests the use covers the cycle
 abbrev turn : tie.Else2 → tie.Start
@@ -77,28 +75,13 @@ returns-3 c =
     let b = c .before in
     let s = turn b in
     let h = covered b in
-    sym (self (s .args .interval) (s .args .rows .now) (s .args .start) (s .args .k) (use-of s) (h .0) (h .1) (omega (arith, b .before .before .before .offset .ensures)))
-
-add-row : tie.Need-add-row
-add-row c = search needs
-
-rem-row : tie.Need-rem-row
-rem-row c = search needs
-
-row-inside : (s : tie.Start) → (s .args .start + s .args .k) % s .args .interval < length (s .args .rows .now)
-row-inside s = omega (arith, mod-lt (s .args .start + s .args .k) {m = s .args .interval} (s .pre .4))
-
-mul-row : tie.Need-mul-row
-mul-row c = omega (arith, row-inside (start (c .before .before .before .before)))
-
-shared-slice-read-row : tie.Need-shared-slice-read-row
-shared-slice-read-row c = row-inside (start (c .before .before .before .before .before))
+    sym (self (s .args .interval) (s .args .row) (s .args .k) (use-of s) (h .0) (h .1) (omega (arith, b .before .before .before .offset .ensures)))
 
 slot-requires : tie.Need-slot-requires
 slot-requires c κs = search needs
 
 abbrev far : tie.After-slot → tie.After-offset
-far c = c .before .before .before .before .before .before
+far c = c .before .before .before .before .before
 
 sub-result : tie.Need-sub-result
 sub-result c = omega (arith, use-ok (start (far c)) .slot-low, c .slot .ensures)
@@ -109,11 +92,10 @@ shr-result c = omega (arith, use-ok (start (far c)) .slot-high, c .slot .ensures
 returns-4 : tie.Need-returns-4
 returns-4 c =
     let s = start (far c) in
-    let h = covered (c .before .before .before) in
-    let row = getD (s .args .rows .now) ((s .args .start + s .args .k) % s .args .interval) 0 in
-    ap (λ (x : ℕ). eqb x 1) (and-mask (row / 2 ^ (c .slot .result - 1)) 1)
-    ∙ ap (λ (x : ℕ). eqb (digitOf 2 row x) 1) (c .slot .ensures)
-    ∙ sym (bit (s .args .interval) (s .args .rows .now) (s .args .start) (s .args .k) (use-of s) (h .0) (h .1) (omega (arith, far c .offset .ensures)))
+    let h = covered (c .before .before) in
+    ap (λ (x : ℕ). eqb x 1) (and-mask (s .args .row / 2 ^ (c .slot .result - 1)) 1)
+    ∙ ap (λ (x : ℕ). eqb (digitOf 2 (s .args .row) x) 1) (c .slot .ensures)
+    ∙ sym (bit (s .args .interval) (s .args .row) (s .args .k) (use-of s) (h .0) (h .1) (omega (arith, far c .offset .ensures)))
 
 pub taken-spec : {M : Type 1} → statement M
 taken-spec =
@@ -126,10 +108,6 @@ taken-spec =
     returns-2
     add-if3
     returns-3
-    add-row
-    rem-row
-    mul-row
-    shared-slice-read-row
     slot-requires
     sub-result
     shr-result

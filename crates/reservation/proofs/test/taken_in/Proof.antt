@@ -9,49 +9,46 @@ use Rattle.model.specs.Loop.{Use, Loop, noUse, opAt, useAt, allUses}
 use Rattle.model.specs.File.{loopOf}
 use Rattle.model.proofs.File.{accepted-ok}
 use Rattle.model.proofs.Loop.{use-among, use-within}
-use Rattle.reservation.specs.Place.{takenAt, takenIn, slotIn}
+use Rattle.reservation.specs.Place.{takenBy, takenIn, slotIn}
 use Rattle.model.proofs.Loop.{all-few}
 use Rattle.model.proofs.Firsts.{first-at, first-not}
 use Rattle.reservation.proofs.test.taken_in.Statement.{statement}
 use Rattle.reservation.proofs.test.taken_in.Tie as tie
 
 abbrev Inv-loop : tie.InvT-loop
-Inv-loop file op start k interval rows first n j₀ j =
-    (j ≤ n) × ((i : ℕ) → i < j → takenAt interval rows start k (useAt (opAt (loopOf file) op) i) ≡ false)
+Inv-loop file op first k interval row n j₀ j =
+    (j ≤ n) × ((i : ℕ) → i < j → takenBy interval row k (useAt (opAt (loopOf file) op) i) ≡ false)
 
 abbrev μ-loop : tie.MeasureT-loop
-μ-loop file op start k interval rows first n j₀ j = n - j
-
-first-use-requires : tie.Need-first-use-requires Inv-loop μ-loop
-first-use-requires c κs = let p = c .before .before .pre in (p .0, p .1)
+μ-loop file op first k interval row n j₀ j = n - j
 
 use-count-requires : tie.Need-use-count-requires Inv-loop μ-loop
-use-count-requires c κs = let p = c .before .before .before .pre in (p .0, p .1)
+use-count-requires c κs = let p = c .before .pre in (p .0, p .1)
 
 loop-holds : tie.Need-loop-holds Inv-loop μ-loop
 loop-holds c = (omega arith, λ i l. absurd (omega arith))
 
 abbrev start : tie.At-loop Inv-loop μ-loop → tie.Start Inv-loop μ-loop
-start c = c .before .before .before .before .before
+start c = c .before .before .before
 
 abbrev loop : tie.At-loop Inv-loop μ-loop → Loop
 loop c = loopOf (start c .args .file .now)
 
 -- the use's number among all
 abbrev number : tie.At-loop Inv-loop μ-loop → ℕ
-number c = c .before .before .first-use .result + c .loop .j
+number c = start c .args .first + c .loop .j
 
 inside : (c : tie.In-loop Inv-loop μ-loop) → number (c .before) < length (allUses (loop (c .before)))
 inside c =
     let h = c .before in
-    omega (arith, use-within (loop h) (start h .args .op) (start h .pre .1), h .before .before .first-use .ensures, h .before .use-count .ensures)
+    omega (arith, use-within (loop h) (start h .args .op) (start h .pre .1), start h .pre .4, h .before .use-count .ensures)
 
 -- it is use j of the operation
 among : (c : tie.In-loop Inv-loop μ-loop)
     → getD (allUses (loop (c .before))) (number (c .before)) noUse ≡ useAt (opAt (loop (c .before)) (start (c .before) .args .op)) (c .before .loop .j)
 among c =
     let h = c .before in
-    ap (λ (x : ℕ). getD (allUses (loop h)) (x + h .loop .j) noUse) (h .before .before .first-use .ensures)
+    ap (λ (x : ℕ). getD (allUses (loop h)) (x + h .loop .j) noUse) (start h .pre .4)
     ∙ use-among (loop h) (start h .args .op) (h .loop .j) (start h .pre .1) (omega (arith, h .before .use-count .ensures))
 
 fits : (c : tie.In-loop Inv-loop μ-loop) → number (c .before) < 256
@@ -63,7 +60,7 @@ add-taken : tie.Need-add-taken Inv-loop μ-loop
 add-taken c = omega (arith, fits c)
 
 taken-requires : tie.Need-taken-requires Inv-loop μ-loop
-taken-requires c κs = let p = start (c .before) .pre in (p .0, inside c, p .2, p .3, p .4, p .5, p .6)
+taken-requires c κs = let p = start (c .before) .pre in (p .0, inside c, p .2, p .3)
 
 add-slot : tie.Need-add-slot Inv-loop μ-loop
 add-slot c = omega (arith, fits (c .before .before))
@@ -73,7 +70,7 @@ slot-requires c κs = let b = c .before .before in (start (b .before) .pre .0, i
 
 -- whether use i of the operation meets a taken cell
 abbrev test : tie.At-loop Inv-loop μ-loop → Use → Bool
-test c = let a = start c .args in takenAt (a .interval) (a .rows .now) (a .start) (a .k)
+test c = let a = start c .args in takenBy (a .interval) (a .row) (a .k)
 
 -- the call says it of use j
 told : (c : tie.After-taken Inv-loop μ-loop)
@@ -110,7 +107,6 @@ taken-in-spec =
     (tie.spec
     Inv-loop
     μ-loop
-    first-use-requires
     use-count-requires
     loop-holds
     add-taken

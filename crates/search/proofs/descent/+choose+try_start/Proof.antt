@@ -25,6 +25,7 @@ use Rattle.reservation.proofs.cells.release.Reads as release-reads
 use Rattle.reservation.proofs.cells.reserve.Reads as reserve-reads
 use Rattle.reservation.proofs.test.conflict.Reads as conflict-reads
 use Rattle.search.proofs.window.window_of.Reads as window-of-reads
+use Rattle.loop_file.proofs.access.first_use.Reads as first-use-reads
 use Rattle.search.proofs.descent.+choose+try_start.{statement}
 use Rattle.search.proofs.descent.+choose+try_start.Tie.{close}
 
@@ -32,7 +33,7 @@ abbrev μ-choose : Measures 3 choose-kinds.ps ℕ
 μ-choose κs a = a .1 .1 .1 .1 .1 .1 .1 .0 * 2 + 1
 
 abbrev μ-try-start : Measures 3 try-start-kinds.ps ℕ
-μ-try-start κs a = a .1 .1 .1 .1 .1 .1 .1 .1 .0 * 2 + 2
+μ-try-start κs a = a .1 .1 .1 .1 .1 .1 .1 .1 .1 .0 * 2 + 2
 
 abbrev choose-at : ℕ → In 3 choose-kinds.ps
 choose-at t = and 3 choose-kinds.ps (is 3 choose-kinds.ps μ-choose t) choose.Pre
@@ -49,29 +50,29 @@ try-start-below t =
 
 -- what each knows of those that it calls
 abbrev tries : ℕ → choose-lts.Claims
-tries t = (window-of-reads.Asked, window-of-reads.Learnt, try-start-below t, try-start.Post)
+tries t = (window-of-reads.Asked, window-of-reads.Learnt, first-use-reads.Asked, first-use-reads.Learnt, try-start-below t, try-start.Post)
 
 abbrev calls : ℕ → try-start-lts.Claims
 calls t =
     (conflict-reads.Asked, conflict-reads.Learnt, reserve-reads.Asked, reserve-reads.Learnt, choose-below t, choose.Post, release-reads.Asked, release-reads.Learnt)
 
 abbrev choose-Inv-loop : choose-lts.InvT-loop
-choose-Inv-loop file starts₀ rows₀ op n interval horizon left w purse₀ s₀ starts rows purse s =
+choose-Inv-loop file starts₀ rows₀ op n interval horizon left w first purse₀ s₀ starts rows purse s =
     Turn file starts₀ rows₀ op n interval horizon left starts rows purse s
 
 abbrev choose-μ-loop : choose-lts.MeasureT-loop
-choose-μ-loop file starts₀ rows₀ op n interval horizon left w purse₀ s₀ starts rows purse s = horizon - s
+choose-μ-loop file starts₀ rows₀ op n interval horizon left w first purse₀ s₀ starts rows purse s = horizon - s
 
 -- ---- choose
 
 -- the entry of choose, from its loop's head
 abbrev entry : (t : ℕ) → choose-lts.At-loop (tries t) (choose-at t) choose.Post choose-Inv-loop choose-μ-loop
     → choose-lts.Start (tries t) (choose-at t) choose.Post choose-Inv-loop choose-μ-loop
-entry t g = g .before .before .before .before .before .before .before
+entry t g = g .before .before .before .before .before .before .before .before
 
 -- there an operation is left
 inner : (t : ℕ) (g : choose-lts.At-loop (tries t) (choose-at t) choose.Post choose-Inv-loop choose-μ-loop) → entry t g .args .op < entry t g .args .n
-inner t g = omega (arith, entry t g .pre .1 .deep, g .before .before .before .if1 .left)
+inner t g = omega (arith, entry t g .pre .1 .deep, g .before .before .before .before .if1 .left)
 
 choose-returns : (t : ℕ) → choose-lts.Need-returns (tries t) (choose-at t) choose.Post choose-Inv-loop choose-μ-loop
 choose-returns t c = (leaf (c .before .before .before .before .pre .1) (c .if1 .taken), refl)
@@ -81,9 +82,13 @@ choose-window-of-requires t c κs =
     let r = c .before .before .before .before .before .pre .1 in
     (r .accepted, omega (arith, r .deep, r .is-size, c .before .if1 .left), omega (arith, r .deep, r .long), r .early, r .short)
 
+choose-first-use-requires : (t : ℕ) → choose-lts.Need-first-use-requires (tries t) (choose-at t) choose.Post choose-Inv-loop choose-μ-loop
+choose-first-use-requires t c κs =
+    let r = c .before .before .before .before .before .before .pre .1 in (r .accepted, omega (arith, r .deep, r .is-size, c .before .before .if1 .left))
+
 choose-loop-holds : (t : ℕ) → choose-lts.Need-loop-holds (tries t) (choose-at t) choose.Post choose-Inv-loop choose-μ-loop
 choose-loop-holds t c =
-    let b = c .before .before .before .before .before .before in begins (b .pre .1) (omega (arith, b .pre .1 .deep, c .before .before .if1 .left))
+    let b = c .before .before .before .before .before .before .before in begins (b .pre .1) (omega (arith, b .pre .1 .deep, c .before .before .before .if1 .left))
 
 choose-same-length : (t : ℕ) → choose-lts.Need-same-length (tries t) (choose-at t) choose.Post choose-Inv-loop choose-μ-loop
 choose-same-length t c = c .before .before .loop .inv .same-length
@@ -103,10 +108,10 @@ choose-try-start-requires : (t : ℕ) → choose-lts.Need-try-start-requires (tr
 choose-try-start-requires t c κs =
     let g = c .before .before .before .before .before .before .before .before in
     let b = entry t g in
-    let w = g .before .window-of in
+    let w = g .before .before .window-of in
     let i = c .before .before .before .before .before .before .before in (
       omega (arith, b .pre .0, g .loop .inv .paid, c .before .before .before .before .before .before .if2 .left),
-      may-try (b .pre .1) (g .loop .inv) (w .result .from) (w .result .to) (w .ensures) (inner t g) (i .loop-test .taken) (c .before .before .before .before .if3 .taken) (c .before .before .if4 .taken),
+      may-try (b .pre .1) (g .loop .inv) (w .result .from) (w .result .to) (w .ensures) (inner t g) (i .loop-test .taken) (c .before .before .before .before .if3 .taken) (c .before .before .if4 .taken) (g .before .first-use .ensures),
     )
 
 -- after the call
@@ -157,7 +162,7 @@ choose-loop-again : (t : ℕ) → choose-lts.Need-loop-again (tries t) (choose-a
 choose-loop-again t c =
     let g = c .before .before .before .before in
     let b = entry t g in
-    let w = g .before .window-of in
+    let w = g .before .before .window-of in
     let skip = skips (b .pre .1) (g .loop .inv) (w .result .from) (w .result .to) (w .ensures) (inner t g) (c .before .before .before .loop-test .taken) (c .before .before .if2 .left) in
     ⊎-elim
     (λ x. same-turn (x .13) (x .14) (x .15) (there t (record {
@@ -187,7 +192,7 @@ choose-returns-5 t c = (ends (entry t (c .before) .pre .1) (c .before .loop .inv
 try-start-conflict-requires : (t : ℕ) → try-start-lts.Need-conflict-requires (calls t) (try-start-at t) try-start.Post
 try-start-conflict-requires t c κs =
     let p = c .before .before .before .before .pre .1 in
-    (p .0 .accepted, omega (arith, p .1, p .0 .is-size), omega (arith, p .2, p .0 .near), p .0 .some, p .0 .short, p .0 .held .long)
+    (p .0 .accepted, omega (arith, p .1, p .0 .is-size), omega (arith, p .2, p .0 .near), p .0 .some, p .0 .short, p .0 .held .long, p .4)
 
 try-start-enum-told : (t : ℕ) → try-start-lts.Need-enum-told (calls t) (try-start-at t) try-start.Post
 try-start-enum-told t c = c .match .keys1
@@ -226,7 +231,7 @@ try-start-slice-write-starts t c = let p = first t c .pre .1 in omega (arith, p 
 
 try-start-reserve-requires : (t : ℕ) → try-start-lts.Need-reserve-requires (calls t) (try-start-at t) try-start.Post
 try-start-reserve-requires t c κs =
-    let p = first t (c .before) .pre .1 in (p .0 .accepted, omega (arith, p .1, p .0 .is-size), can-reserve p (free t (c .before)))
+    let p = first t (c .before) .pre .1 in (p .0 .accepted, omega (arith, p .1, p .0 .is-size), can-reserve p (free t (c .before)), p .4)
 
 try-start-add-choose : (t : ℕ) → try-start-lts.Need-add-choose (calls t) (try-start-at t) try-start.Post
 try-start-add-choose t c = omega (arith, op-few (first t (c .before .before .before .before .before .before) .pre .1))
@@ -249,7 +254,7 @@ try-start-release-requires : (t : ℕ) → try-start-lts.Need-release-requires (
 try-start-release-requires t c κs =
     let w = c .before .before .before .before .before in
     let p = first t (passed t w) .pre .1 in
-    (p .0 .accepted, omega (arith, p .1, p .0 .is-size), can-release p (free t (passed t w)) (put t w .reserve .ensures) (w .choose .ensures .1))
+    (p .0 .accepted, omega (arith, p .1, p .0 .is-size), can-release p (free t (passed t w)) (put t w .reserve .ensures) (w .choose .ensures .1), p .4)
 
 -- at the end: the call
 abbrev call : (t : ℕ) → try-start-lts.After-slice-known6 (calls t) (try-start-at t) try-start.Post → try-start-lts.After-choose (calls t) (try-start-at t) try-start.Post
@@ -257,7 +262,7 @@ call t c = c .before .before .before .before .before .before .before .before
 
 -- and the rows as they were
 as-before : (t : ℕ) (c : try-start-lts.After-slice-known6 (calls t) (try-start-at t) try-start.Post)
-    → c .before .before .release .last .1 .1 .1 .1 .0 ≡ first t (passed t (call t c)) .args .rows .now
+    → c .before .before .release .last .1 .1 .1 .1 .1 .0 ≡ first t (passed t (call t c)) .args .rows .now
 as-before t c =
     let w = call t c in
     given-back (first t (passed t w) .pre .1) (free t (passed t w)) (put t w .reserve .ensures) (w .choose .ensures .1) (c .before .before .release .ensures)
@@ -281,6 +286,7 @@ pub +choose+try-start-spec : {M : Type 1} → statement M
     choose-μ-loop
     (choose-returns t)
     (choose-window-of-requires t)
+    (choose-first-use-requires t)
     (choose-loop-holds t)
     (choose-same-length t)
     (choose-same-length-2 t)

@@ -1,0 +1,169 @@
+-- Every list of calls: demand 3. It rests on `Opened`, `Stepped` and `Run` alone, and not on code. Assumes nothing.
+use mathlib.Core.Path.{_≡_, refl, sym, ap, ap₂, _∙_, subst, subst₃}
+use mathlib.Core.List.{List, _∷_, _++_}
+use mathlib.Core.Option.{Option, none, some}
+use Prim.Native.Nat.{ℕ, _≤_}
+use native.Mathlib.Omega.{arith}
+use lib.ListN.{length, take, drop, length-map}
+use lib.Seq.{length-take-le, take-at, drop-at}
+use Rattle.model.specs.Refusals.{Refusal, firstRefusal, Answer, answered, settled}
+use Rattle.model.specs.Loop.{size}
+use Rattle.model.specs.File.{loopOf}
+use Rattle.model.specs.Legality.{Placing, legalAt}
+use Rattle.model.specs.Session.{Setup, State, Call, checkpoint, rollback, done, numbered, placedIn, stateTable, openChecks, openFile, openRows, start, step, after, replies}
+use Rattle.model.specs.Session as model
+use Rattle.model.specs.Undo.{NoneGives, markedBy, placings, OrderOf, AllDone}
+use Rattle.model.proofs.Table.{length-table}
+use Rattle.model.proofs.Undo.{back-to, back-pure, start-table, Good, replay}
+use Rattle.reservation.specs.Seats.{seats}
+use Rattle.session.specs.Board.{setupAs}
+use Rattle.session.specs.Moves.{replyOf}
+use Rattle.session.specs.View.{setupOf, stateOf, fileOf, Valid, Stepped, Opened}
+use Rattle.session.specs.Undo.{Run, stop, next, Demand3}
+use Rattle.session.specs.declared.Session.{Session}
+use Rattle.session.specs.declared.Reply.{Reply}
+use Rattle.session.specs.declared.Checked.the-variants as checked
+use Rattle.session.proofs.Readings.{starts-length, seats-are}
+use Rattle.session.proofs.Boards.{few-operations}
+
+-- ---- a session by the model
+
+-- session s with these rows is the model's setup u in state st, and the rows after the table are `rest`
+pub record Stands (u : Setup) (st : State) (rest : List ℕ) (s : Session) (rows : List ℕ) : Type 0 where
+  pub state : stateOf s ≡ st
+  pub setup : setupOf s ≡ u
+  pub rows-are : rows ≡ stateTable u st ++ rest
+  pub valid : Valid s rows
+
+module _ {u : Setup} {st : State} {rest : List ℕ} {s : Session} {rows : List ℕ} (a : Stands u st rest s rows) where
+  -- the rows of its table, and those after it
+  stands-take : take (u .ii) rows ≡ stateTable u st
+  stands-take = ap (take (u .ii)) (a .rows-are) ∙ take-at (stateTable u st) rest (u .ii) (length-table 2 (u .ii) _)
+
+  stands-drop : drop (u .ii) rows ≡ rest
+  stands-drop = ap (drop (u .ii)) (a .rows-are) ∙ drop-at (stateTable u st) rest (u .ii) (length-table 2 (u .ii) _)
+
+  -- as many checkpoints are open as it counts
+  stands-marks : s .marks ≡ length (st .checkpoints)
+  stands-marks =
+      sym (length-take-le (s .marks) (s .saved) (omega (arith, a .valid .few, a .valid .saved-all)))
+      ∙ sym (length-map (take (s .marks) (s .saved)) _) ∙ ap (λ (x : State). length (x .checkpoints)) (a .state)
+
+-- ---- calls
+
+-- after a call
+stepped-stands : {c : Call} {s s′ : Session} {rows rows′ : List ℕ} {r : Reply} → Stepped c s rows s′ rows′ r
+    → Stands (setupOf s) (step (setupOf s) c (stateOf s) .0) (drop (s .interval) rows) s′ rows′
+stepped-stands {s} {rows} t = record {
+  state = t .state;
+  setup = t .setup;
+  rows-are = t .rows-are ∙ ap (λ (x : State). stateTable (setupOf s) x ++ drop (s .interval) rows) (t .state);
+  valid = t .valid;
+}
+
+-- a call on a session that stands: its answer, and where it leads
+step-stands : {u : Setup} {st : State} {rest : List ℕ} {c : Call} {s s′ : Session} {rows rows′ : List ℕ} {r : Reply}
+    → Stands u st rest s rows → Stepped c s rows s′ rows′ r → (replyOf r ≡ step u c st .1) × Stands u (step u c st .0) rest s′ rows′
+step-stands {c} {s} {s′} {rows} {rows′} a t = (
+  t .reply ∙ ap₂ (λ (v : Setup) (x : State). step v c x .1) (a .setup) (a .state),
+  subst₃ (λ (v : Setup) (x : State) (l : List ℕ). Stands v (step v c x .0) l s′ rows′) (a .setup) (a .state)
+      (ap (λ (v : Setup). drop (v .ii) rows) (a .setup) ∙ stands-drop a) (stepped-stands t),
+)
+
+-- a list of calls
+pub ran : {u : Setup} {st : State} {rest : List ℕ} {cs : List Call} {rs : List (Answer model.Reply)} {s s′ : Session} {rows rows′ : List ℕ}
+    → Stands u st rest s rows → Run s rows cs rs s′ rows′ → (rs ≡ replies u cs st) × Stands u (after u cs st) rest s′ rows′
+unfolding after replies
+ran a stop = (refl, a)
+ran a (next t r) =
+    let b = step-stands a t in
+    let d = ran (b .1) r in
+    (ap₂ (λ (x : Answer model.Reply) (xs : List (Answer model.Reply)). x ∷ xs) (b .0) (d .0), d .1)
+
+-- ---- opening
+
+-- a session that was opened stands at the start
+pub from-open : {f : List ℕ} {ii h : ℕ} {rows₀ rows : List ℕ} {s : Session} → Opened f ii h rows₀ s checked.Fine rows
+    → Stands (setupAs f ii h) (start (setupAs f ii h)) (drop ii rows₀) s rows
+unfolding openFile
+from-open {f} {ii} {h} {rows₀} {s} o =
+    let u : Setup = setupAs f ii h in
+    let e : setupOf s ≡ setupAs f ii h = same (firstRefusal (openChecks f ii h (length rows₀))) (o .says) in
+    let a : openFile f ii h (length rows₀) ≡ answered (setupAs f ii h) = sym (o .says) ∙ ap answered e in
+    record {
+      state = o .state u a;
+      setup = e;
+      rows-are = o .rows-are ∙ ap (λ (x : Answer Setup). openRows x rows₀) a ∙ ap (λ (x : List ℕ). x ++ drop ii rows₀) (sym (start-table u));
+      valid = o .valid u a;
+    }
+  where
+    same : {v w : Setup} (x : Option Refusal) → answered v ≡ settled x w → v ≡ w
+    same none e = cc
+    same (some r) e = cc
+
+-- ---- what demand 3 says
+
+-- the starts of a session that calls take can be placed again
+valid-good : {s : Session} {rows : List ℕ} → Valid s rows → Good (setupOf s) (stateOf s .starts)
+valid-good {s} v =
+    let n : ℕ = size (loopOf (fileOf s)) in
+    let room : n ≤ length (s .starts .at) = omega (arith, few-operations (fileOf s) (v .board .accepted), v .board .sane .whole) in
+    let same : placedIn (stateOf s .starts) ≡ seats (s .starts .at) = seats-are n (s .starts .at) room (v .board .sane .blank) in
+    record {
+      whole = starts-length n (s .starts .at) room;
+      near = λ o t e. v .board .sane .near o t (sym (ap (λ (f : Placing). f o) same) ∙ e);
+      fine = ap (legalAt (loopOf (fileOf s)) (s .interval)) same ∙ v .board .sane .fine;
+    }
+
+-- rolling back to a checkpoint m since which no call answered m gives the very state and rows of then
+very-back : {s s₁ s₂ s′ : Session} {rows rows₁ rows₂ rows′ : List ℕ} {r₁ r : Reply} {cs₂ : List Call} {rs₂ : List (Answer model.Reply)} (m : ℕ)
+    → Stepped checkpoint s₁ rows₁ s₂ rows₂ r₁ → replyOf r₁ ≡ answered (numbered m) → Run s₂ rows₂ cs₂ rs₂ s rows → NoneGives m rs₂
+    → m ≤ s .marks → Stepped (rollback m) s rows s′ rows′ r → (stateOf s′ ≡ stateOf s₂) × (rows′ ≡ rows₂)
+very-back {s₁} {rows₁} {cs₂} m t e run still high t′ =
+    let u : Setup = setupOf s₁ in
+    let a = stepped-stands t in
+    let b = ran a run in
+    let d = step-stands (b .1) t′ .1 in
+    let same = back-pure u m cs₂ (stateOf s₁) (sym (t .reply) ∙ e) (subst (NoneGives m) (b .0) still) (omega (arith, stands-marks (b .1))) in
+    (d .state ∙ same ∙ sym (a .state), d .rows-are ∙ ap (λ (x : State). stateTable u x ++ drop (s₁ .interval) rows₁) same ∙ sym (a .rows-are))
+
+-- rolling back to an open checkpoint m, after calls since the opening, is done and gives the state just after the last call that answered m, and its rows
+went-back : {u : Setup} {rest : List ℕ} {s s′ : Session} {rows rows′ : List ℕ} {r : Reply} (m : ℕ) (cs : List Call) → Stands u (after u cs (start u)) rest s rows
+    → 1 ≤ m → m ≤ s .marks → Stepped (rollback m) s rows s′ rows′ r
+    → (replyOf r ≡ answered done)
+    × (stateOf s′ ≡ markedBy u m cs (start u) (start u))
+    × (rows′ ≡ stateTable u (markedBy u m cs (start u) (start u)) ++ rest)
+went-back {u} {rest} m cs a low high t =
+    let b = step-stands a t in
+    let e = back-to u m cs (start u) refl low (omega (arith, stands-marks a)) in (
+      b .0 ∙ ap (λ (x : State × Answer model.Reply). x .1) e,
+      b .1 .state ∙ ap (λ (x : State × Answer model.Reply). x .0) e,
+      b .1 .rows-are ∙ ap (λ (x : State × Answer model.Reply). stateTable u (x .0) ++ rest) e,
+    )
+
+-- its placed operations, placed in any order on a session that was opened alike, are accepted and give its starts and its rows
+placed-again : {u : Setup} {st : State} {rest rest₁ : List ℕ} {s s₁ s₂ : Session} {rows rows₁ rows₂ : List ℕ} {rs₂ : List (Answer model.Reply)} (os : List ℕ)
+    → Stands u st rest s rows → OrderOf (stateOf s .starts) os → Stands u (start u) rest₁ s₁ rows₁ → Run s₁ rows₁ (placings (stateOf s .starts) os) rs₂ s₂ rows₂
+    → AllDone rs₂ × (stateOf s₂ .starts ≡ stateOf s .starts) × (take (u .ii) rows₂ ≡ take (u .ii) rows)
+placed-again {u} {s} os a q o r =
+    let w = replay u (stateOf s .starts) (subst (λ (v : Setup). Good v (stateOf s .starts)) (a .setup) (valid-good (a .valid))) os q in
+    let b = ran o r in (
+      subst AllDone (sym (b .0)) (w .0),
+      ap (λ (x : State). x .starts) (b .1 .state ∙ w .1),
+      stands-take (b .1) ∙ ap (stateTable u) (w .1) ∙ ap (stateTable u) (a .state) ∙ sym (stands-take a),
+    )
+
+-- demand 3
+pub demand3 : Demand3
+demand3 f ii h rows₀ rows₁ rows s₁ s cs rs o r =
+    let a = ran (from-open o) r in
+    record {
+      answers = a .0;
+      state = a .1 .state;
+      table = a .1 .rows-are;
+      setup = a .1 .setup;
+      valid = a .1 .valid;
+      back = λ m. went-back m cs (a .1);
+      very = λ m. very-back m;
+      again = λ os q o₁. placed-again os (a .1) q (from-open o₁);
+    }

@@ -1,0 +1,263 @@
+-- From what the calls do to starts and rows to `Stepped`, for each return of each call. Assumes nothing.
+use mathlib.Core.Path.{_≡_, refl, sym, ap, ap₂, _∙_, subst}
+use mathlib.Core.Bool.{Bool, true, false, cond}
+use mathlib.Core.List.{List, [], _∷_, _++_, map}
+use mathlib.Core.Logic.{_⊎_, inl, inr}
+use mathlib.Core.Option.{Option, none, some}
+use Prim.Native.Nat.{ℕ, zero, suc, _+_, _-_, _≤_, _<_}
+use native.Mathlib.Nat.{not-suc-le-zero, le-of-suc-le-suc, eq-or-lt-of-le}
+use native.Mathlib.Numerals.{add-one}
+use native.Mathlib.Omega.{arith}
+use borrow.Author.Tests.{eq-eqb, ne-eqb, le-leb, lt-leb, lt-ltb, le-ltb}
+use lib.Dec.{eqb, leb, ltb}
+use lib.ListN.{length, getD, set, take, drop, length-map, length-set, take-append-drop}
+use lib.Seq.{length-take-le, take-suc-set, take-take, getD-take, getD-set-same, getD-set-other}
+use Rattle.model.specs.Refusals.{Refusal, Check, firstRefusal, Answer, answered, refused, settled}
+use Rattle.model.specs.Loop.{size}
+use Rattle.model.specs.File.{loopOf}
+use Rattle.model.specs.Legality.{Placing}
+use Rattle.model.specs.Table.{IsTable, cellsOf, tableOf, tableAt}
+use Rattle.model.specs.Session.{Setup, Starts, State, Call, checkpoint, release, rollback, Reply, placedIn, stateTable, checks, effect, stepAs, step}
+use Rattle.model.specs.Session as model
+use Rattle.model.proofs.Lists.{map-append}
+use Rattle.model.proofs.Firsts.{getD-within}
+use Rattle.model.proofs.Table.{table-take}
+use Rattle.model.proofs.Session.{step-refused, step-done, checkpoint-done, rollback-done}
+use Rattle.reservation.specs.Seats.{seats}
+use Rattle.session.specs.Board.{startsOf, setupAs, bare, Sane, Board}
+use Rattle.session.specs.Moves.{replyOf, Did, Restored}
+use Rattle.session.specs.View.{fileOf, setupOf, stateOf, blank, Valid, Stepped}
+use Rattle.session.specs.declared.Starts as starts
+use Rattle.session.specs.declared.Session.{Session}
+use Rattle.session.specs.declared.Reply as declared
+use Rattle.session.specs.declared.Reply.the-variants as reply
+use Rattle.session.proofs.Readings.{seats-are}
+use Rattle.session.proofs.Boards.{few-operations}
+
+-- ---- lists
+
+-- a map over a part
+map-take : {A B : Type 0} (f : A → B) (n : ℕ) (l : List A) → map f (take n l) ≡ take n (map f l)
+map-take f zero l = refl
+map-take f (suc n) [] = refl
+map-take f (suc n) (x ∷ l) = ap (λ t. f x ∷ t) (map-take f n l)
+
+-- a place of a map, whatever stands past the ends
+getD-map-lt : {A B : Type 0} (f : A → B) (l : List A) (n : ℕ) (d : A) (e : B) → n < length l → getD (map f l) n e ≡ f (getD l n d)
+getD-map-lt f [] n d e h = absurd (not-suc-le-zero h)
+getD-map-lt f (x ∷ l) zero d e h = refl
+getD-map-lt f (x ∷ l) (suc n) d e h = getD-map-lt f l n d e (le-of-suc-le-suc h)
+
+-- ---- rows
+
+-- the rows of a board are the table of its starts, then the later rows
+pub board-rows : {f : List ℕ} {ii h : ℕ} {xs rows′ : List ℕ} (rows : List ℕ) → Board f ii h xs rows′ → drop ii rows′ ≡ drop ii rows
+    → rows′ ≡ tableAt (loopOf f) ii (placedIn (startsOf (size (loopOf f)) xs)) ++ drop ii rows
+board-rows {f} {ii} {xs = xs} {rows′} rows b e =
+    sym (take-append-drop ii rows′)
+    ∙ ap₂ (λ (a c : List ℕ). a ++ c)
+    (table-take 2 ii (cellsOf (loopOf f) ii (seats xs)) rows′ (b .held)
+    ∙ ap (λ (g : Placing). tableAt (loopOf f) ii g) (sym (seats-are (size (loopOf f)) xs (omega (arith, few-operations f (b .accepted), b .sane .whole)) (b .sane .blank))))
+    e
+
+-- ---- calls that leave the checkpoints alone
+
+abbrev mk : Starts → List Starts → State
+mk a b = record { starts = a; checkpoints = b }
+
+-- such a call does the same whatever checkpoints are there
+step-plain : (u : Setup) (c : Call) (a : Starts) (cs : List Starts) → checks u c (mk a cs) ≡ checks u c (mk a [])
+    → effect u c (mk a cs) ≡ (mk (effect u c (mk a []) .0 .starts) cs, effect u c (mk a []) .1)
+    → step u c (mk a cs) ≡ (mk (step u c (mk a []) .0 .starts) cs, step u c (mk a []) .1)
+unfolding step
+step-plain u c a cs p q =
+    ap₂ (λ (t : List Check) (e : State × Reply). stepAs (mk a cs) (settled (firstRefusal t) e)) p q ∙ pick (firstRefusal (checks u c (mk a [])))
+  where
+    pick : (o : Option Refusal)
+        → stepAs (mk a cs) (settled o (mk (effect u c (mk a []) .0 .starts) cs, effect u c (mk a []) .1))
+        ≡ (mk (stepAs (mk a []) (settled o (effect u c (mk a []))) .0 .starts) cs, stepAs (mk a []) (settled o (effect u c (mk a []))) .1)
+    pick none = refl
+    pick (some r) = refl
+
+-- a call that is done is not refused
+done-same : {X : Type 0} (x : Refusal) → answered model.done ≡ refused x → X
+done-same x w = let y : _≡_ {A = ℕ} 0 1 = cc in absurd (omega arith)
+
+-- the session with other starts
+abbrev pub withStarts : Session → List ℕ → Session
+withStarts s xs =
+    record { file = s .file; length = s .length; interval = s .interval; horizon = s .horizon; starts = record { at = xs }; marks = s .marks; saved = s .saved }
+
+module _ (s : Session) (rows : List ℕ) (v : Valid s rows) where
+  -- from what a call did to the starts and the rows
+  pub stepped-plain : (c : Call) {xs′ rows′ : List ℕ} {r : declared.Reply}
+      → ((a : Starts) (cs : List Starts) → checks (setupOf s) c (mk a cs) ≡ checks (setupOf s) c (mk a []))
+      → ((a : Starts) (cs : List Starts) → effect (setupOf s) c (mk a cs) ≡ (mk (effect (setupOf s) c (mk a []) .0 .starts) cs, effect (setupOf s) c (mk a []) .1))
+      → Did c (fileOf s) (s .interval) (s .horizon) (s .starts .at) rows xs′ rows′ r → Stepped c s rows (withStarts s xs′) rows′ r
+  stepped-plain c {xs′} {rows′} {r} p q d =
+      let u : Setup = setupOf s in
+      let a : Starts = stateOf s .starts in
+      let cs : List Starts = stateOf s .checkpoints in
+      let e : step u c (mk a cs) ≡ (mk (step u c (mk a []) .0 .starts) cs, step u c (mk a []) .1) = step-plain u c a cs (p a cs) (q a cs) in
+      record {
+        reply = d .reply ∙ sym (ap (λ (x : State × Answer Reply). x .1) e);
+        state = ap (λ (x : Starts). mk x cs) (d .starts-are) ∙ sym (ap (λ (x : State × Answer Reply). x .0) e);
+        setup = refl;
+        rows-are = board-rows rows (d .board) (d .rest);
+        valid = record { stored = v .stored; fits-in = v .fits-in; saved-all = v .saved-all; few = v .few; board = d .board; kept = v .kept };
+        same = λ x z. (ap (withStarts s) (d .kept x z .0), d .kept x z .1);
+      }
+
+  -- a call refused before anything was looked at
+  pub stepped-refused : (c : Call) (n k : ℕ) → firstRefusal (checks (setupOf s) c (stateOf s)) ≡ some (record { number = n; detail = k }) → Stepped c s rows s rows (reply.Refused n k)
+  stepped-refused c n k e =
+      let z = step-refused (setupOf s) c (stateOf s) (record { number = n; detail = k }) e in
+      record {
+        reply = sym (ap (λ (x : State × Answer Reply). x .1) z);
+        state = sym (ap (λ (x : State × Answer Reply). x .0) z);
+        setup = refl;
+        rows-are = board-rows rows (v .board) refl;
+        valid = v;
+        same = λ x w. (refl, refl);
+      }
+
+  -- how many checkpoints are open
+  pub open-count : length (stateOf s .checkpoints) ≡ s .marks
+  open-count = length-map (take (s .marks) (s .saved)) _ ∙ length-take-le (s .marks) (s .saved) (omega (arith, v .few, v .saved-all))
+
+  -- ---- checkpoint
+
+  pub full : 16 ≤ s .marks → Stepped checkpoint s rows s rows (reply.Refused 18 0)
+  unfolding firstRefusal
+  full h = stepped-refused checkpoint 18 0 (rw (open-count, le-leb 16 (s .marks) h))
+
+  -- the session with one checkpoint more
+  abbrev marked : Session
+  marked =
+      record { file = s .file; length = s .length; interval = s .interval; horizon = s .horizon; starts = s .starts; marks = s .marks + 1; saved = set (s .saved) (s .marks) (s .starts) }
+
+  pub stepped-checkpoint : s .marks < 16 → Stepped checkpoint s rows marked rows (reply.Numbered (s .marks + 1))
+  stepped-checkpoint h =
+      let z = checkpoint-done (setupOf s) (stateOf s) (omega (arith, open-count)) in
+      record {
+        reply = ap (λ (n : ℕ). answered (model.numbered (n + 1))) (sym open-count) ∙ sym (ap (λ (x : State × Answer Reply). x .1) z);
+        state = ap (mk (stateOf s .starts)) copies ∙ sym (ap (λ (x : State × Answer Reply). x .0) z);
+        setup = refl;
+        rows-are = board-rows rows (v .board) refl;
+        valid =
+            record {
+              stored = v .stored;
+              fits-in = v .fits-in;
+              saved-all = length-set (s .saved) (s .marks) (s .starts) ∙ v .saved-all;
+              few = omega arith;
+              board = v .board;
+              kept = λ i l. pick i (eq-or-lt-of-le (before i l));
+            };
+        same = λ x w. not-refused x w;
+      }
+    where
+      read : starts.Starts → Starts
+      read x = startsOf (size (loopOf (fileOf s))) (x .at)
+
+      copies : map read (take (s .marks + 1) (set (s .saved) (s .marks) (s .starts))) ≡ map read (take (s .marks) (s .saved)) ++ (read (s .starts) ∷ [])
+      copies =
+          ap (map read) (ap (λ (n : ℕ). take n (set (s .saved) (s .marks) (s .starts))) (add-one (s .marks)) ∙ take-suc-set (s .saved) (s .marks) (s .starts) (omega (arith, v .saved-all)))
+          ∙ map-append read (take (s .marks) (s .saved)) (s .starts ∷ [])
+
+      before : (i : ℕ) → i < s .marks + 1 → i ≤ s .marks
+      before i l = omega arith
+
+      pick : (i : ℕ) → (i ≡ s .marks) ⊎ (i < s .marks) → Sane (loopOf (fileOf s)) (s .interval) (s .horizon) (getD (set (s .saved) (s .marks) (s .starts)) i blank .at)
+      pick i (inl e) = rw (e, getD-set-same (s .saved) (s .marks) (s .starts) blank (omega (arith, v .saved-all))) (v .board .sane)
+      pick i (inr l) = rw (getD-set-other (s .saved) (s .marks) i (s .starts) blank (λ e. omega arith)) (v .kept i l)
+
+      not-refused : (x : Refusal) → answered (model.numbered (s .marks + 1)) ≡ refused x → (marked ≡ s) × (rows ≡ rows)
+      not-refused x w = let y : _≡_ {A = ℕ} 0 1 = cc in absurd (omega arith)
+
+  -- ---- release
+
+  pub none-open : s .marks ≡ 0 → Stepped release s rows s rows (reply.Refused 19 0)
+  unfolding firstRefusal
+  none-open e = stepped-refused release 19 0 (rw (open-count, eq-eqb (s .marks) 0 e))
+
+  -- the session with n checkpoints, of those that are open
+  abbrev fewer : ℕ → Session
+  fewer n = record { file = s .file; length = s .length; interval = s .interval; horizon = s .horizon; starts = s .starts; marks = n; saved = s .saved }
+
+  -- the first n of the open checkpoints
+  first-open : (n : ℕ) → n ≤ s .marks → stateOf (fewer n) .checkpoints ≡ take n (stateOf s .checkpoints)
+  first-open n h = ap (map _) (sym (take-take n (s .marks) (s .saved) h)) ∙ map-take _ n (take (s .marks) (s .saved))
+
+  pub stepped-release : (s .marks ≡ 0 → ⊥) → Stepped release s rows (fewer (s .marks - 1)) rows reply.Done
+  unfolding firstRefusal
+  stepped-release n =
+      let z = step-done (setupOf s) release (stateOf s) (rw (open-count, ne-eqb (s .marks) 0 n)) in
+      record {
+        reply = sym (ap (λ (x : State × Answer Reply). x .1) z);
+        state =
+            ap (mk (stateOf s .starts)) (first-open (s .marks - 1) (omega arith) ∙ ap (λ (k : ℕ). take (k - 1) (stateOf s .checkpoints)) (sym open-count))
+            ∙ sym (ap (λ (x : State × Answer Reply). x .0) z);
+        setup = refl;
+        rows-are = board-rows rows (v .board) refl;
+        valid =
+            record {
+              stored = v .stored;
+              fits-in = v .fits-in;
+              saved-all = v .saved-all;
+              few = omega (arith, v .few);
+              board = v .board;
+              kept = λ i l. v .kept i (omega arith);
+            };
+        same = λ x w. done-same x w;
+      }
+
+  -- ---- rollback
+
+  pub no-mark : (m : ℕ) → m ≡ 0 → Stepped (rollback m) s rows s rows (reply.Refused 19 0)
+  unfolding firstRefusal
+  no-mark m e = stepped-refused (rollback m) 19 0 (rw (eq-eqb m 0 e))
+
+  pub not-open : (m : ℕ) → (m ≡ 0 → ⊥) → s .marks < m → Stepped (rollback m) s rows s rows (reply.Refused 19 0)
+  unfolding firstRefusal
+  not-open m n h = stepped-refused (rollback m) 19 0 (rw (open-count, ne-eqb m 0 n, lt-ltb (s .marks) m h))
+
+  module _ (m : ℕ) (some : m ≡ 0 → ⊥) (there : m ≤ s .marks) (d : starts.Starts) where
+    -- the starts of the checkpoint
+    abbrev wanted : starts.Starts
+    wanted = getD (s .saved) (m - 1) d
+
+    -- they are sane, whatever stands past the end
+    pub wanted-sane : Sane (loopOf (fileOf s)) (s .interval) (s .horizon) (wanted .at)
+    wanted-sane =
+        rw (getD-within (s .saved) (m - 1) d blank (omega (arith, v .saved-all, v .few))) (v .kept (m - 1) (omega arith))
+
+    -- the session gone back to it
+    abbrev back : Session
+    back = record { file = s .file; length = s .length; interval = s .interval; horizon = s .horizon; starts = wanted; marks = m; saved = s .saved }
+
+    pub stepped-rollback : {xs′ rows′ : List ℕ} → Restored (fileOf s) (s .interval) (wanted .at) rows xs′ rows′ → Stepped (rollback m) s rows back rows′ reply.Done
+    stepped-rollback {rows′ = rows′} k =
+        let z = rollback-done (setupOf s) (stateOf s) m (omega arith) (omega (arith, open-count)) in
+        let b : Board (fileOf s) (s .interval) (s .horizon) (wanted .at) rows′ =
+        record { accepted = v .board .accepted; numbers = v .board .numbers; sane = wanted-sane; held = k .held } in
+        record {
+          reply = sym (ap (λ (x : State × Answer Reply). x .1) z);
+          state = ap₂ mk (sym there-is) (first-open m there) ∙ sym (ap (λ (x : State × Answer Reply). x .0) z);
+          setup = refl;
+          rows-are = board-rows rows b (k .rest);
+          valid =
+              record {
+                stored = v .stored;
+                fits-in = v .fits-in;
+                saved-all = v .saved-all;
+                few = omega (arith, v .few);
+                board = b;
+                kept = λ i l. v .kept i (omega arith);
+              };
+          same = λ x w. done-same x w;
+        }
+      where
+        there-is : getD (stateOf s .checkpoints) (m - 1) [] ≡ startsOf (size (loopOf (fileOf s))) (wanted .at)
+        there-is =
+            getD-map-lt _ (take (s .marks) (s .saved)) (m - 1) d [] (omega (arith, length-take-le (s .marks) (s .saved) (omega (arith, v .few, v .saved-all))))
+            ∙ ap (λ (x : starts.Starts). startsOf (size (loopOf (fileOf s))) (x .at)) (getD-take (s .marks) (s .saved) (m - 1) d (omega arith))

@@ -1,0 +1,24 @@
+-- `remove` meets its contract: the move on the starts and the rows, joined to the session. Assumes nothing.
+use mathlib.Core.Path.{refl}
+use native.Mathlib.Omega.{arith}
+use borrow.Author.Needs.{needs}
+use Rattle.model.specs.Session as model
+use Rattle.session.proofs.Boards.{board-far}
+use Rattle.session.proofs.Stepping.{stepped-plain}
+use Rattle.session.proofs.remove.Statement.{statement}
+use Rattle.session.proofs.remove.Tie as tie
+
+remove-requires : tie.Need-remove-requires
+remove-requires c κs = let v = c .before .before .before .before .before .before .before .pre in (omega (arith, v .stored, v .fits-in), board-far (v .board))
+
+same-length : tie.Need-same-length
+same-length c = search needs
+
+returns : tie.Need-returns
+returns c =
+    let m = c .before .before in
+    let s = m .before .before .before .before .before .before .before .before in
+    stepped-plain (s .args .t1) (s .args .rows .now) (s .pre) (model.remove (s .args .op)) (λ a cs. refl) (λ a cs. refl) (m .remove .ensures (s .args .t1 .horizon) (s .pre .board))
+
+pub remove-spec : {M : Type 1} → statement M
+remove-spec = tie.close (tie.spec remove-requires same-length returns)

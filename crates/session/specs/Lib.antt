@@ -1,0 +1,5 @@
+pub mod Board
+pub mod Checks
+pub mod Moves
+pub mod View
+pub mod Undo
