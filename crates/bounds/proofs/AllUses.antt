@@ -1,18 +1,16 @@
 -- The total on a slot over the uses of all operations in one row. Assumes nothing.
 use mathlib.Core.Path.{_≡_, sym, _∙_}
 use mathlib.Core.Bool.{Bool, true, false, cond}
-use mathlib.Core.List.{List, [], _∷_, flatMap}
-use Prim.Native.Nat.{ℕ, suc, _+_, _-_, _*_, _≤_, _<_}
+use Prim.Native.Nat.{ℕ, _+_, _-_, _*_, _≤_}
 use native.Mathlib.Omega.{arith}
 use borrow.Author.Tests.{eq-eqb, ne-eqb}
 use lib.Dec.{eqb}
-use lib.ListN.{length, getD, length-append, List·getD-append}
-use lib.Seq.{getD-append-add}
+use lib.ListN.{length, getD}
 use Rattle.model.specs.Lists.{upFrom, sumOf}
-use Rattle.model.specs.Loop.{Use, Op, Loop, noUse, noOp, allUses, UseOk, OpOk, LoopOk}
+use Rattle.model.specs.Loop.{Use, Loop, noUse, allUses, UseOk, LoopOk}
 use Rattle.model.specs.Bounds.{totalOn}
 use Rattle.model.proofs.Lists.{sum-places}
-use Rattle.model.proofs.Loop.{all-ok, all-few}
+use Rattle.model.proofs.Loop.{all-ok}
 use Rattle.model.proofs.Sums.{sum-flatMap, sum-next, sum-most}
 
 -- ---- totals

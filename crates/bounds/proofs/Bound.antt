@@ -1,5 +1,5 @@
 -- The recurrence bound: where it exists, what rules out a shorter interval, and that it is the largest quotient of a closed walk. Assumes nothing.
-use mathlib.Core.Path.{_≡_, refl, sym, ap, _∙_}
+use mathlib.Core.Path.{_≡_}
 use mathlib.Core.List.{List, [], _∷_}
 use mathlib.Core.Logic.{_⊎_, inl, inr}
 use Prim.Native.Nat.{ℕ, zero, suc, _+_, _-_, _*_, _/_, _≤_, _<_}
@@ -7,8 +7,8 @@ use native.Mathlib.Nat.{le-refl, mul-zero, div-lt-iff-lt-mul, le-div-iff-mul-le}
 use native.Mathlib.Decide.{ℕ-discrete, decLt}
 use native.Mathlib.Omega.{arith}
 use lib.IntN.{ℤ, pos, negsuc}
-use lib.ListN.{length, getD}
-use lib.Signed.{_≤ℤ_, _<ℤ_}
+use lib.ListN.{length}
+use lib.Signed.{_<ℤ_}
 use Rattle.model.specs.Integers.{plus}
 use Rattle.model.specs.Loop.{Loop, size, depAt, LoopOk}
 use Rattle.model.specs.Bounds.{Feasible, RecurrenceBound, Goes, Closed, delayOf, distanceOf, Heavy, Stuck}

@@ -1,20 +1,19 @@
 -- What rounds at one interval show, and what halving the range of intervals comes to. Assumes nothing.
 use mathlib.Core.Path.{_≡_, refl, sym, ap, _∙_}
 use mathlib.Core.Bool.{Bool, true, false, not}
-use mathlib.Core.List.{List, [], _∷_, map}
+use mathlib.Core.List.{List, _∷_, map}
 use mathlib.Core.Logic.{_⊎_, inl, inr}
-use Prim.Native.Nat.{ℕ, zero, suc, _+_, _-_, _*_, _≤_, _<_}
+use Prim.Native.Nat.{ℕ, zero, suc, _+_, _-_, _≤_, _<_}
 use native.Mathlib.Nat.{mul-le-mul, le-of-suc-le-suc}
 use native.Mathlib.Numerals.{add-one}
 use native.Mathlib.Decide.{decLt}
 use native.Mathlib.Omega.{arith}
-use borrow.Author.Tests.{not-true}
 use lib.IntN.{ℤ, pos}
 use lib.ListN.{length, take, replicate}
 use Rattle.model.specs.Loop.{Loop, size, LoopOk}
 use Rattle.model.specs.Bounds.{Feasible, Stuck}
 use Rattle.model.proofs.Bounds.{each-met, feasible-more, refutes}
-use Rattle.bounds.specs.Rounds.{round, rounds, metTo, Holds, nats, SmallIn, Rounded}
+use Rattle.bounds.specs.Rounds.{rounds, metTo, Holds, SmallIn, Rounded}
 use Rattle.bounds.specs.Walks.{Refuted, Decides, RecurrenceIs}
 use Rattle.bounds.proofs.Rounds.{MeetsAll, rounds-length, still-met}
 use Rattle.bounds.proofs.Trail.{last-round}

@@ -8,7 +8,7 @@ use native.Mathlib.Numerals.{add-one}
 use native.Mathlib.Omega.{arith}
 use lib.Dec.{leb, ltb, ltb→lt, nltb→le}
 use lib.IntN.{ℤ, pos, _+ℤ_, _-ℤ_}
-use lib.ListN.{length, getD, set, take, List·getD-map}
+use lib.ListN.{length, getD, set, List·getD-map}
 use lib.Seq.{getD-take, take-set-lt}
 use lib.Signed.{ltZ, mag}
 use borrow.Author.Tests.{lt-ltb, le-ltb, le-leb, lt-leb, leb-true}
@@ -17,7 +17,7 @@ use Rattle.model.specs.Loop.{Dep, Loop, size, depAt, DepOk, LoopOk}
 use Rattle.model.proofs.Lists.{and-left, and-right}
 use Rattle.model.proofs.Signed.{by-test, is-pos, is-add, is-subtract, lt-as, parts}
 use Rattle.model.proofs.Bounds.{Met}
-use Rattle.bounds.specs.Rounds.{needed, relax, relaxTo, metb, metTo, Holds, nats, Below, Raised, SmallIn}
+use Rattle.bounds.specs.Rounds.{needed, relax, relaxTo, metb, metTo, Holds, nats, Raised, SmallIn}
 use Rattle.bounds.proofs.Rounds.{relax-int, relaxTo-met, relaxTo-next}
 use Rattle.bounds.proofs.Values.{to-below}
 

@@ -6,22 +6,21 @@
 use mathlib.Core.Path.{_≡_, refl, sym, ap, _∙_}
 use mathlib.Core.List.{List, [], _∷_}
 use mathlib.Core.Logic.{_≢_, _⊎_, inl, inr}
-use Prim.Native.Nat.{ℕ, zero, suc, _+_, _-_, _*_, _≤_, _<_, max}
-use native.Mathlib.Nat.{le-trans, le-refl, le-of-eq, mul-add, zero-add, suc-add, add-suc, add-zero}
-use native.Mathlib.Decide.{ℕ-discrete, decLt, decLe}
+use Prim.Native.Nat.{ℕ, zero, suc, _+_, _-_, _*_, _≤_, _<_}
+use native.Mathlib.Nat.{le-trans, le-refl, le-of-eq, mul-add, add-suc, add-zero}
+use native.Mathlib.Decide.{ℕ-discrete, decLt}
 use native.Mathlib.Omega.{arith}
-use lib.IntN.{ℤ, pos}
 use lib.ListN.{length, getD, set, replicate, length-set, length-replicate, getD-replicate}
 use lib.Seq.{getD-set-same, getD-set-other}
-use Rattle.model.specs.Loop.{Dep, Loop, size, depAt, DepOk}
-use Rattle.model.specs.Bounds.{Goes, Closed, delayOf, distanceOf, Heavy, Feasible}
+use Rattle.model.specs.Loop.{Dep, Loop, size, depAt}
+use Rattle.model.specs.Bounds.{Goes, distanceOf, Feasible}
 use Rattle.model.specs.Integers.{plus, minus}
 use Rattle.model.proofs.Signed.{is-pos, of-lt}
 use Rattle.model.proofs.Bounds.{Met, each-met, plusOf, minusOf, delay-parts}
 use Rattle.bounds.specs.Walks.{Refuted}
 use Rattle.bounds.proofs.Hole.{Twice, pigeonhole}
 use Rattle.bounds.specs.Rounds.{needed, relax, relaxTo, round, rounds}
-use Rattle.bounds.proofs.Rounds.{MeetsAll, AllWithin, relax-length, relax-met, relax-unmet, set-up, relaxTo-length, rounds-length, still-met}
+use Rattle.bounds.proofs.Rounds.{MeetsAll, AllWithin, relax-met, relax-unmet, set-up, rounds-length, still-met}
 
 -- one more in front
 abbrev before : ℕ → (ℕ → ℕ) → ℕ → ℕ

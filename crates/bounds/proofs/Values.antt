@@ -1,19 +1,18 @@
 -- How large the values of the rounds grow. Assumes nothing.
-use mathlib.Core.Path.{_≡_, refl, sym, ap, _∙_}
-use mathlib.Core.List.{List, [], _∷_}
+use mathlib.Core.Path.{_≡_, refl}
+use mathlib.Core.List.{List}
 use Prim.Native.Nat.{ℕ, zero, suc, _+_, _-_, _*_, _≤_, _<_, max}
-use native.Mathlib.Nat.{le-trans, le-refl, max-le, mul-suc, mul-add, mul-zero}
-use native.Mathlib.Decide.{ℕ-discrete, decLt}
+use native.Mathlib.Nat.{le-refl, mul-suc}
+use native.Mathlib.Decide.{ℕ-discrete}
 use native.Mathlib.Omega.{arith}
-use lib.IntN.{ℤ, pos, negsuc}
+use lib.IntN.{ℤ, pos}
 use lib.Signed.{_≤ℤ_}
-use lib.ListN.{length, getD, set, replicate, length-replicate, getD-replicate, List·getD-eq-default}
+use lib.ListN.{length, getD, set, replicate}
 use lib.Seq.{getD-set-same, getD-set-other}
-use Rattle.model.specs.Loop.{Dep, Loop, depAt, DepOk}
-use Rattle.model.specs.Integers.{plus, minus}
+use Rattle.model.specs.Loop.{Dep, Loop, depAt}
 use Rattle.model.proofs.Signed.{plus-le}
 use Rattle.bounds.specs.Rounds.{needed, relax, relaxTo, round, rounds, Below}
-use Rattle.bounds.proofs.Rounds.{AllWithin, relax-length, relaxTo-length, rounds-length}
+use Rattle.bounds.proofs.Rounds.{AllWithin, relaxTo-length, rounds-length}
 
 pub zeros : (n i : ℕ) → _≡_ {A = ℕ} (getD (replicate n 0) i 0) 0
 zeros zero i = refl

@@ -1,12 +1,12 @@
 -- The reader's answer and the model's reading. Assumes nothing.
-use mathlib.Core.Path.{_≡_, refl, sym, ap, _∙_}
-use mathlib.Core.List.{List, _++_}
+use mathlib.Core.Path.{_≡_, refl, ap, _∙_}
+use mathlib.Core.List.{List}
 use mathlib.Core.Option.{Option, none, some}
 use Prim.Native.Nat.{ℕ}
 use native.Mathlib.Omega.{arith}
 use lib.ListN.{length}
 use Rattle.model.specs.Refusals.{Refusal, firstRefusal, Answer, answered, refused, settled}
-use Rattle.model.specs.Loop.{Loop, size, allUses}
+use Rattle.model.specs.Loop.{size, allUses}
 use Rattle.model.specs.File.{readFile, fileChecks, loopOf, Accepted, opCount, depCount, firstUse}
 use Rattle.model.proofs.Lists.{length-tabulate}
 use Rattle.model.proofs.File.{size-is, deps-is, all-uses-is}

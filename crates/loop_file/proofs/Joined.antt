@@ -1,11 +1,11 @@
 -- How the tables of the file's parts join to the table of the whole file. Assumes nothing.
-use mathlib.Core.Path.{_≡_, refl, sym, ap, _∙_}
+use mathlib.Core.Path.{_≡_, ap, _∙_}
 use mathlib.Core.List.{List, _++_, append-assoc}
-use mathlib.Core.Option.{Option, none, some}
+use mathlib.Core.Option.{none, some}
 use Prim.Native.Nat.{ℕ, _*_}
 use borrow.Author.Tests.{eq-eqb, ne-eqb}
 use Rattle.model.specs.Refusals.{Refusal, Check, firstRefusal}
-use Rattle.model.specs.File.{uses, lengthOf, usesAt, depsAt, opCount, depCount, firstUse, lengthChecks, headChecks, contentsChecks, usesChecks, fileChecks, Accepted}
+use Rattle.model.specs.File.{uses, lengthOf, usesAt, depsAt, opCount, depCount, firstUse, lengthChecks, headChecks, contentsChecks, usesChecks, fileChecks}
 use Rattle.model.proofs.Checks.{refusal-append, refusal-early}
 use Rattle.loop_file.specs.Read.{refusal, opsTable, usesTable, depsTable, bodyChecks}
 

@@ -5,9 +5,9 @@ use mathlib.Core.Option.{Option}
 use Prim.Native.Nat.{ℕ, _+_, _*_, _-_, _≤_}
 use native.Mathlib.Omega.{arith}
 use lib.ListN.{length, take, drop}
-use Rattle.model.specs.Refusals.{Refusal, firstRefusal, settled}
+use Rattle.model.specs.Refusals.{Refusal, settled}
 use Rattle.model.specs.Loop.{allUses}
-use Rattle.model.specs.File.{Section, oper, uses, deps, lengthOf, opCount, firstUse, useIn, loopOf, fileChecks, readFile, partIf, bodyOf, Accepted}
+use Rattle.model.specs.File.{Section, oper, uses, deps, lengthOf, opCount, firstUse, useIn, loopOf, readFile, partIf, bodyOf, Accepted}
 use Rattle.model.proofs.Lists.{length-tabulate}
 use Rattle.model.proofs.File.{Layout, layout, size-is, deps-is, all-uses-is}
 use Rattle.loop_file.specs.Read.{readingOf, counted}

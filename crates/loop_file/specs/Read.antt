@@ -1,11 +1,9 @@
 -- What the reader's answers say, in document 01's numbers. Assumes nothing.
-use mathlib.Core.Path.{_≡_}
-use mathlib.Core.Bool.{Bool}
 use mathlib.Core.List.{List, [], _∷_, _++_, flatMap}
-use Prim.Native.Nat.{ℕ, _+_, _*_, _≤_, _<_}
+use Prim.Native.Nat.{ℕ, _+_, _*_}
 use lib.ListN.{length, getD}
 use Rattle.model.specs.Lists.{upFrom}
-use Rattle.model.specs.Refusals.{Refusal, Check, Answer, answered, refused, settle}
+use Rattle.model.specs.Refusals.{Refusal, Check, Answer, answered, refused}
 use Rattle.model.specs.Loop.{Loop, size, allUses}
 use Rattle.model.specs.File.{Section, opCount, depCount, depsAt, opRecord, usesOf, firstUse, opChecks, opUseChecks, usesChecks, depChecks}
 use Rattle.loop_file.specs.declared.Reading as reading-type

@@ -1,12 +1,12 @@
 -- Each relation of the model has one answer for each input, so a statement by it fixes the whole answer. Assumes nothing.
-use mathlib.Core.Path.{_≡_, refl, sym, ap, _∙_}
+use mathlib.Core.Path.{_≡_, sym, ap, _∙_}
 use mathlib.Core.List.{List}
 use mathlib.Core.Option.{Option, none, some}
 use Prim.Native.Nat.{ℕ}
 use native.Mathlib.Omega.{arith}
 use Rattle.model.specs.Refusals.{Refusal, Answer, answered, refused, firstRefusal}
 use Rattle.model.specs.File.{loopOf, Accepted, fileChecks}
-use Rattle.model.specs.Bounds.{Lower, LowerIs, BoundsIs, by-file, by-loop}
+use Rattle.model.specs.Bounds.{Lower, BoundsIs, by-file, by-loop}
 use Rattle.model.specs.Search.{Request, Outcome, requestChecks, roomChecks, searchChecks, sweep, intervals, SearchIs, by-check, by-bound, by-sweep}
 use Rattle.model.proofs.Checks.{passes-left}
 use Rattle.model.proofs.File.{accepted-ok}

@@ -1,26 +1,21 @@
 -- The starred worked cases, by one theorem over their list. What computes is proved by computing; a bound is proved by starts that meet the
 -- dependences and, below it, by a closed walk that is too heavy. Assumes nothing.
 use mathlib.Core.Path.{_≡_, refl, sym, ap}
-use mathlib.Core.Bool.{true}
 use mathlib.Core.List.{List, [], _∷_, flatMap}
-use mathlib.Core.Option.{Option, none, some}
-use Prim.Native.Nat.{ℕ, zero, suc, _+_, _*_, _≤_, _<_}
+use mathlib.Core.Option.{none, some}
+use Prim.Native.Nat.{ℕ, _*_, _≤_, _<_}
 use native.Mathlib.Omega.{arith}
 use lib.Dec.{lit≤}
-use lib.IntN.{pos}
-use lib.ListN.{length}
-use lib.Signed.{_<ℤ_}
 use Rattle.model.specs.Lists.{upFrom, pairs, any, first, count, sumOf, maxOf}
 use Rattle.model.specs.Refusals.{Answer, answered, refused, firstRefusal}
-use Rattle.model.specs.Loop.{Loop, size, depAt}
 use Rattle.model.specs.File.{readFile, signedByte, firstUse, loopOf, lengthChecks, headChecks, standsAt, entryChecks, contentsChecks, opChecks, useChecks, opUseChecks, usesChecks, depChecks, fileChecks, Accepted}
-use Rattle.model.specs.Legality.{placed, holds, meets, cellsIn, footprint, share, conflict, selfConflict, apart, legalAt}
+use Rattle.model.specs.Legality.{holds, meets, cellsIn, footprint, share, conflict, selfConflict, apart, legalAt}
 use Rattle.model.specs.Table.{number, rowNumber, tableOf, cellsOf}
-use Rattle.model.specs.Bounds.{totalOn, resourceBound, Feasible, RecurrenceBound, Goes, Closed, delayOf, distanceOf, Heavy, Stuck, Lower, LowerIs, cyclic, within, BoundsIs, by-loop}
-use Rattle.model.specs.Search.{words, answer, probes, stageCount, lastEnd, orderOf, listing, sweep, requestChecks, roomChecks, searchChecks, intervals, Request, Outcome, found, SearchIs, by-sweep}
+use Rattle.model.specs.Bounds.{totalOn, resourceBound, Feasible, Closed, delayOf, distanceOf, Heavy, LowerIs, cyclic, within, BoundsIs, by-loop}
+use Rattle.model.specs.Search.{words, answer, probes, stageCount, lastEnd, orderOf, listing, sweep, requestChecks, roomChecks, searchChecks, intervals, Request, Outcome, SearchIs, by-sweep}
 use Rattle.model.specs.Session.{Setup, Starts, Call, Reply, start, stateTable, openChecks, openFile, firstBroken, inTheWay, without, maskOf, step, after, replies}
 use Rattle.model.specs.Verifier.{proposalChecks, verdict, verifyFile}
-use Rattle.model.specs.Cases.{Case, searched, Holds, AllHold, no-more, _also_, Called, foundAt, fileA, loopA, fileB, fileB2, fileC, ring, idle, four, starred}
+use Rattle.model.specs.Cases.{searched, Holds, AllHold, no-more, _also_, Called, foundAt, fileA, loopA, fileB2, fileC, ring, idle, starred}
 use Rattle.model.proofs.Signed.{is-pos, of-lt}
 use Rattle.model.proofs.File.{accepted-ok}
 use Rattle.model.proofs.Bounds.{refutes}

@@ -14,7 +14,7 @@ use lib.ListN.{length, getD, take}
 use lib.Seq.{take-suc}
 use lib.Signed.{leZ, leZ-yes, _≤ℤ_}
 use Rattle.model.specs.Lists.{upFrom, sumOf}
-use Rattle.model.specs.Refusals.{Check, firstRefusal}
+use Rattle.model.specs.Refusals.{firstRefusal}
 use Rattle.model.specs.Loop.{Use, Op, noUse, noOp, allUses, firstUseOf, noDep, size, opAt, depAt, useAt, UseOk, OpOk, DepOk, LoopOk}
 use Rattle.model.specs.File.{byteAt, Section, oper, uses, deps, lengthOf, recordsOf, endAt, opCount, depCount, opRecord, usesOf, firstUse, useRecord, depRecord, useIn, opIn, depIn, loopOf, lengthChecks, headChecks, entryChecks, contentsChecks, opChecks, slotBelow, useChecks, opUseChecks, usesChecks, depChecks, fileChecks, Accepted}
 use Rattle.model.proofs.Lists.{upFrom-snoc, upFrom-split, map-append, sum-append, length-tabulate, getD-tabulate, and-left, and-right, or-false-left, or-false-right}

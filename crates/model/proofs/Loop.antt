@@ -1,12 +1,12 @@
 -- Where the uses of an operation stand among all uses, and their ranges. Assumes nothing.
-use mathlib.Core.Path.{_≡_, refl, sym, ap, _∙_}
-use mathlib.Core.List.{List, [], _∷_, _++_, flatMap}
+use mathlib.Core.Path.{_≡_, _∙_}
+use mathlib.Core.List.{List, [], _∷_, flatMap}
 use Prim.Native.Nat.{ℕ, zero, suc, _+_, _-_, _*_, _≤_, _<_}
 use native.Mathlib.Decide.{decLt}
 use native.Mathlib.Nat.{zero-add, add-assoc, le-of-suc-le-suc, not-suc-le-zero}
 use native.Mathlib.Omega.{arith}
 use lib.ListN.{length, getD, take, length-append, List·getD-append}
-use lib.Seq.{getD-append-add, take-suc}
+use lib.Seq.{getD-append-add}
 use Rattle.model.specs.Lists.{sumOf}
 use Rattle.model.specs.Loop.{Use, Op, Loop, noUse, noOp, size, opAt, useAt, allUses, firstUseOf, UseOk, OpOk, LoopOk}
 

@@ -1,16 +1,14 @@
 -- Laws of the session's calls: what a refused call leaves, and which checkpoints are open. Assumes nothing.
-use mathlib.Core.Path.{_≡_, refl, sym, ap, _∙_}
-use mathlib.Core.Bool.{Bool, true, false, cond, _||_}
+use mathlib.Core.Path.{_≡_, refl, ap, _∙_}
 use mathlib.Core.List.{List, [], _∷_, _++_}
 use mathlib.Core.Option.{Option, none, some}
-use Prim.Native.Nat.{ℕ, zero, suc, _+_, _-_, _≤_, _<_}
+use Prim.Native.Nat.{ℕ, _+_, _-_, _≤_, _<_}
 use native.Mathlib.Omega.{arith}
-use lib.Dec.{eqb, ltb, leb}
 use lib.ListN.{length, getD, take, length-append}
 use lib.Seq.{length-take-le, getD-append-seam, take-all}
 use borrow.Author.Tests.{ne-eqb, le-ltb, lt-leb}
-use Rattle.model.specs.Refusals.{Refusal, Check, firstRefusal, Answer, answered, refused, settled}
-use Rattle.model.specs.Session.{Setup, Starts, State, Call, checkpoint, release, rollback, Reply, done, numbered, checks, effect, stepAs, step}
+use Rattle.model.specs.Refusals.{Refusal, firstRefusal, Answer, answered, refused, settled}
+use Rattle.model.specs.Session.{Setup, Starts, State, Call, checkpoint, rollback, Reply, done, numbered, checks, effect, stepAs, step}
 
 -- a call is refused, and then by the first check that fails; or it has its effect
 pub step-refused : (u : Setup) (c : Call) (st : State) (r : Refusal) → firstRefusal (checks u c st) ≡ some r → step u c st ≡ (st, refused r)

@@ -1,19 +1,19 @@
 -- The verdict is legal exactly for the legal lists, and a list is legal exactly where its dependences hold and no cell occurs twice. Assumes nothing.
-use mathlib.Core.Path.{_≡_, refl, sym, ap, ap₂, _∙_}
-use mathlib.Core.Bool.{Bool, true, false, not}
+use mathlib.Core.Path.{_≡_, refl, ap, ap₂, _∙_}
+use mathlib.Core.Bool.{Bool, true, not}
 use mathlib.Core.List.{List}
 use mathlib.Core.Option.{Option, none, some}
-use Prim.Native.Nat.{ℕ, _≤_, _<_}
+use Prim.Native.Nat.{ℕ, _≤_}
 use native.Mathlib.Omega.{arith}
-use lib.ListN.{length, getD}
+use lib.ListN.{length}
 use Rattle.model.specs.Lists.{upFrom, pairs, any, first}
-use Rattle.model.specs.Loop.{Loop, noDep, size, depAt, LoopOk}
+use Rattle.model.specs.Loop.{Loop, size, depAt, LoopOk}
 use Rattle.model.specs.Legality.{placed, broken, meets, pairConflict, apart, legalAt}
 use Rattle.model.specs.Legality as legality
 use Rattle.model.specs.Table.{countOf, cellsOf}
-use Rattle.model.specs.Verifier.{legal, breach, clash, judge, verdict}
+use Rattle.model.specs.Verifier.{legal, breach, judge, verdict}
 use Rattle.model.proofs.Lists.{false-not, and-left, and-right, and-both, any-row, row-any, first-none, none-first}
-use Rattle.model.proofs.Legality.{meets-each, each-meets, apart-each, each-apart}
+use Rattle.model.proofs.Legality.{meets-each, each-meets}
 use Rattle.model.proofs.Conflicts.{apart-once, once-apart}
 use borrow.Author.Tests.{not-true}
 

@@ -1,8 +1,8 @@
 -- The two lower bounds of the interval, and closed walks of dependences. Assumes nothing.
 use mathlib.Core.Path.{_≡_}
-use mathlib.Core.Bool.{Bool, true, false, cond}
+use mathlib.Core.Bool.{true, cond}
 use mathlib.Core.List.{List, [], _∷_}
-use mathlib.Core.Option.{Option, none, some}
+use mathlib.Core.Option.{some}
 use Prim.Native.Nat.{ℕ, _+_, _*_, _≤_, _<_, max}
 use lib.Dec.{eqb}
 use lib.IntN.{ℤ, pos, _+ℤ_}
@@ -10,7 +10,7 @@ use lib.ListN.{length}
 use lib.Signed.{_<ℤ_}
 use Rattle.model.specs.Lists.{upFrom, sumOf, maxOf}
 use Rattle.model.specs.Refusals.{Refusal, firstRefusal, Answer, answered, refused}
-use Rattle.model.specs.Loop.{Use, Op, Loop, size, depAt}
+use Rattle.model.specs.Loop.{Loop, size, depAt}
 use Rattle.model.specs.File.{Accepted, fileChecks, loopOf}
 use Rattle.model.specs.Legality.{placed, meets}
 

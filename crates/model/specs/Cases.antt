@@ -1,7 +1,7 @@
 -- The starred worked cases of document 01, as one list; proofs/Cases.antt proves them by one theorem. Assumes nothing.
 use mathlib.Core.Path.{_≡_}
 use mathlib.Core.List.{List, [], _∷_, _++_}
-use mathlib.Core.Option.{Option, none, some}
+use mathlib.Core.Option.{none, some}
 use Prim.Native.Nat.{ℕ, _+_, _/_, _%_}
 use lib.IntN.{pos}
 use lib.ListN.{length}

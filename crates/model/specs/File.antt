@@ -1,8 +1,8 @@
 -- The loop file: what its bytes say, and what a file is refused for, in file order. Assumes nothing.
 use mathlib.Core.Path.{_≡_}
-use mathlib.Core.Bool.{Bool, true, false, not, cond, _&&_, _||_}
+use mathlib.Core.Bool.{Bool, true, not, cond, _&&_, _||_}
 use mathlib.Core.List.{List, [], _∷_, _++_, map, flatMap}
-use mathlib.Core.Option.{Option, none, some}
+use mathlib.Core.Option.{none}
 use Prim.Native.Nat.{ℕ, zero, suc, _+_, _-_, _*_, _/_, _%_, min}
 use lib.Dec.{eqb, leb, ltb}
 use lib.IntN.{ℤ, pos, negsuc}
@@ -10,7 +10,7 @@ use lib.ListN.{length, getD, take, drop}
 use lib.Signed.{leZ}
 use Rattle.model.specs.Lists.{upFrom}
 use Rattle.model.specs.Loop.{Use, Op, Dep, Loop}
-use Rattle.model.specs.Refusals.{Refusal, Check, check, firstRefusal, Answer, answered, refused, settle}
+use Rattle.model.specs.Refusals.{Check, check, firstRefusal, Answer, answered, refused, settle}
 
 -- ---- numbers in the file
 

@@ -1,11 +1,11 @@
 -- Which starts are legal at an initiation interval `ii` (document 01: an interval II). Assumes nothing.
-use mathlib.Core.Bool.{Bool, true, false, not, cond, _&&_, _||_}
-use mathlib.Core.List.{List, [], _∷_, _++_, flatMap}
+use mathlib.Core.Bool.{Bool, false, not, cond, _&&_, _||_}
+use mathlib.Core.List.{List, [], _∷_, flatMap}
 use mathlib.Core.Option.{Option, none, some}
-use Prim.Native.Nat.{ℕ, zero, suc, _+_, _*_, _%_}
+use Prim.Native.Nat.{ℕ, _+_, _*_, _%_}
 use lib.Dec.{eqb, leb, ltb}
 use lib.IntN.{ℤ, pos, _+ℤ_}
-use lib.ListN.{length, getElem?}
+use lib.ListN.{getElem?}
 use lib.Signed.{leZ}
 use Rattle.model.specs.Lists.{upFrom, pairs, any}
 use Rattle.model.specs.Loop.{Use, Op, Dep, Loop, size, opAt}

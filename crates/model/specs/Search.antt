@@ -1,14 +1,14 @@
 -- The search: which intervals and lists are tried, what is found, and how many probes that takes by definition. Assumes nothing.
 use mathlib.Core.Path.{_≡_}
-use mathlib.Core.Bool.{Bool, true, false, not, cond, _&&_, _||_}
+use mathlib.Core.Bool.{Bool, true, false, cond, _&&_, _||_}
 use mathlib.Core.List.{List, [], _∷_, _++_, map, flatMap, dropLast}
 use mathlib.Core.Option.{Option, none, some}
-use Prim.Native.Nat.{ℕ, zero, suc, _+_, _-_, _*_, _/_, _%_, max}
-use lib.Dec.{eqb, leb, ltb}
+use Prim.Native.Nat.{ℕ, zero, suc, _+_, _-_, _/_, _%_, max}
+use lib.Dec.{eqb, ltb}
 use lib.ListN.{length, getD, take, drop, replicate}
 use Rattle.model.specs.Lists.{upFrom, first, count, maxOf}
 use Rattle.model.specs.Refusals.{Refusal, Check, check, firstRefusal, Answer, answered, refused}
-use Rattle.model.specs.Loop.{Op, Loop, size, opAt}
+use Rattle.model.specs.Loop.{Loop, size, opAt}
 use Rattle.model.specs.File.{fileChecks, loopOf}
 use Rattle.model.specs.Legality.{legal}
 use Rattle.model.specs.Bounds.{Lower, LowerIs}

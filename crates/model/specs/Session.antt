@@ -1,14 +1,13 @@
 -- The session: the reference state (document 01: the book) and what each call does to it. Assumes nothing.
-use mathlib.Core.Path.{_≡_}
 use mathlib.Core.Bool.{Bool, true, false, not, cond, _&&_, _||_}
 use mathlib.Core.List.{List, [], _∷_, _++_, map}
 use mathlib.Core.Option.{Option, none, some}
-use Prim.Native.Nat.{ℕ, zero, suc, _+_, _-_, _^_}
+use Prim.Native.Nat.{ℕ, _+_, _-_, _^_}
 use lib.Dec.{eqb, leb, ltb}
 use lib.ListN.{length, getD, set, take, drop, replicate}
 use Rattle.model.specs.Lists.{upFrom, any, first, sumOf}
-use Rattle.model.specs.Refusals.{Refusal, Check, check, firstRefusal, Answer, answered, refused, settle}
-use Rattle.model.specs.Loop.{Op, Dep, Loop, size, opAt, depAt}
+use Rattle.model.specs.Refusals.{Check, check, Answer, answered, refused, settle}
+use Rattle.model.specs.Loop.{Loop, size, opAt, depAt}
 use Rattle.model.specs.File.{fileChecks, loopOf}
 use Rattle.model.specs.Legality.{Placing, selfConflict, touches, breaks, conflictsWith}
 use Rattle.model.specs.Table.{tableAt}

@@ -1,13 +1,12 @@
 -- The verifier of a proposed list of starts (document 01: the judge). Assumes nothing.
-use mathlib.Core.Path.{_≡_}
-use mathlib.Core.Bool.{Bool, true, false, cond}
+use mathlib.Core.Bool.{true, false}
 use mathlib.Core.List.{List, [], _∷_, _++_}
 use mathlib.Core.Option.{Option, none, some}
 use Prim.Native.Nat.{ℕ}
 use lib.Dec.{leb, ltb}
 use lib.ListN.{length, getD, take}
 use Rattle.model.specs.Lists.{upFrom, pairs, first}
-use Rattle.model.specs.Refusals.{Refusal, Check, check, Answer, settle}
+use Rattle.model.specs.Refusals.{Check, check, Answer, settle}
 use Rattle.model.specs.Loop.{Loop, size, depAt}
 use Rattle.model.specs.File.{fileChecks, loopOf}
 use Rattle.model.specs.Legality.{placed, broken, pairConflict}

@@ -5,13 +5,13 @@ use mathlib.Core.Bool.{Bool, true, false, _&&_, _||_}
 use mathlib.Core.List.{List, map, flatMap}
 use mathlib.Core.Option.{none}
 use Prim.Native.Nat.{ℕ, _+_, _-_, _%_, _≤_, _<_}
-use native.Mathlib.Decide.{decLt, ℕ-discrete}
+use native.Mathlib.Decide.{decLt}
 use native.Mathlib.Nat.{mod-lt}
 use native.Mathlib.Omega.{arith}
 use lib.Dec.{eqb, leb, ltb}
 use lib.ListN.{length, getD}
-use borrow.Author.Tests.{eq-eqb, ne-eqb, le-leb, lt-leb, lt-ltb, le-ltb, ltb-false, eqb-false}
-use Rattle.model.specs.Lists.{upFrom, any, first}
+use borrow.Author.Tests.{le-leb, lt-leb, lt-ltb, le-ltb, ltb-false, eqb-false}
+use Rattle.model.specs.Lists.{upFrom, any}
 use Rattle.model.specs.Loop.{Use, Op, noUse, useAt, OpOk}
 use Rattle.model.specs.Legality.{Cell, covers, footprint, share, selfConflict}
 use Rattle.model.specs.Table.{countOf, IsTable, digitOf, Digits}

@@ -3,7 +3,7 @@ use mathlib.Core.Bool.{Bool}
 use Prim.Native.Nat.{ℕ, _+_, _%_}
 use Rattle.model.specs.Lists.{upFrom, any}
 use Rattle.model.specs.Loop.{Use, Op}
-use Rattle.model.specs.Legality.{Cell, sameCell, footprint}
+use Rattle.model.specs.Legality.{sameCell, footprint}
 
 -- whether an operation started at s covers the slot in the row
 unfoldable pub coversCell : ℕ → Op → ℕ → ℕ → ℕ → Bool

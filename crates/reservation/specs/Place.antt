@@ -1,13 +1,12 @@
 -- The first place in which an operation meets a taken cell: cycle by cycle, and in a cycle by slot. Assumes nothing.
-use mathlib.Core.Path.{_≡_}
-use mathlib.Core.Bool.{Bool, true, false, _&&_, _||_}
-use mathlib.Core.List.{List, [], _∷_, map, flatMap}
-use mathlib.Core.Option.{Option, none, some, Option·map}
+use mathlib.Core.Bool.{Bool, _&&_, _||_}
+use mathlib.Core.List.{List, map, flatMap}
+use mathlib.Core.Option.{Option, none, some}
 use Prim.Native.Nat.{ℕ, _+_, _%_}
 use lib.Dec.{eqb, leb}
 use lib.ListN.{getD}
 use Rattle.model.specs.Lists.{upFrom, first}
-use Rattle.model.specs.Loop.{Use, Op}
+use Rattle.model.specs.Loop.{Use}
 use Rattle.model.specs.Legality.{covers}
 use Rattle.model.specs.Table.{digitOf}
 use Rattle.reservation.specs.declared.Place.{Place}

@@ -1,5 +1,5 @@
 -- Starts of placed operations as a list of numbers, in which one value means that the operation is not placed. Assumes nothing.
-use mathlib.Core.Bool.{Bool, true, false, cond}
+use mathlib.Core.Bool.{cond}
 use mathlib.Core.List.{List}
 use mathlib.Core.Option.{Option, none, some}
 use Prim.Native.Nat.{ℕ}

@@ -6,7 +6,7 @@ use mathlib.Core.Option.{none}
 use Prim.Native.Nat.{ℕ, suc, _≤_}
 use native.Mathlib.Omega.{arith}
 use lib.ListN.{length, take}
-use Rattle.model.specs.Refusals.{Answer, answered, refused, firstRefusal}
+use Rattle.model.specs.Refusals.{answered, refused, firstRefusal}
 use Rattle.model.specs.Loop.{size}
 use Rattle.model.specs.File.{loopOf, Accepted}
 use Rattle.model.specs.Legality.{legal}

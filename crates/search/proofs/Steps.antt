@@ -12,7 +12,7 @@ use borrow.Author.Tests.{lt-ltb, le-ltb, le-leb, lt-leb}
 use lib.Dec.{leb, ltb}
 use lib.ListN.{length, take, getD, set, length-set}
 use lib.Seq.{append-snoc, take-suc-set, take-take, take-set-le, length-take-le, getD-take, getD-set-same, getD-set-other}
-use Rattle.model.specs.Loop.{Use, Op, Loop, size, opAt, firstUseOf, LoopOk}
+use Rattle.model.specs.Loop.{Op, Loop, size, opAt, firstUseOf, LoopOk}
 use Rattle.model.specs.File.{loopOf}
 use Rattle.model.specs.Legality.{Placing, placed, legalAt, legal, placeAt, fitsAt}
 use Rattle.model.specs.Table.{cellsOf, IsTable, Digits}

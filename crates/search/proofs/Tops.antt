@@ -1,6 +1,6 @@
 -- What the sweep over the intervals uses: one interval, searched from its empty prefix, as a step of the model's sweep. Assumes nothing.
 use mathlib.Core.Path.{_≡_, refl, sym, ap, _∙_}
-use mathlib.Core.List.{List, [], _∷_, flatMap}
+use mathlib.Core.List.{List, [], _∷_}
 use mathlib.Core.Option.{Option, none, some}
 use Prim.Native.Nat.{ℕ, suc, _+_, _-_, _≤_, _<_}
 use native.Mathlib.Decide.{decLt}
@@ -9,10 +9,9 @@ use native.Mathlib.Omega.{arith}
 use borrow.Author.Tests.{lt-ltb, le-ltb}
 use lib.ListN.{length, take}
 use Rattle.model.specs.Lists.{upFrom}
-use Rattle.model.specs.Loop.{Loop, size, opAt}
+use Rattle.model.specs.Loop.{Loop, size}
 use Rattle.model.specs.File.{loopOf}
 use Rattle.model.specs.Legality.{placed, legal}
-use Rattle.model.specs.Table.{opCells, cellsOf}
 use Rattle.model.specs.Bounds.{Lower}
 use Rattle.model.specs.Search.{answer, probes, Request, Outcome, ended, tryInterval, sweep}
 use Rattle.model.proofs.File.{accepted-ok}

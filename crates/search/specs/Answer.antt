@@ -7,7 +7,7 @@ use Rattle.model.specs.Refusals.{Answer, answered, refused}
 use Rattle.model.specs.Loop.{Loop, size}
 use Rattle.model.specs.File.{loopOf, Accepted}
 use Rattle.model.specs.Bounds.{Lower}
-use Rattle.model.specs.Search.{Request, Outcome, found, ended, sweep, intervals, SearchIs, listAfter, rowsAfter}
+use Rattle.model.specs.Search.{Outcome, found, ended, sweep, intervals, SearchIs, listAfter, rowsAfter}
 use Rattle.loop_file.specs.declared.Reading.{Reading}
 use Rattle.loop_file.specs.declared.Reading.the-variants as reading
 use Rattle.bounds.specs.declared.LowerBounds.{LowerBounds}

@@ -5,7 +5,7 @@ use mathlib.Core.Option.{Option, none, some}
 use Prim.Native.Nat.{ℕ}
 use Rattle.model.specs.Refusals.{Refusal, firstRefusal}
 use Rattle.model.specs.Loop.{Loop, size}
-use Rattle.model.specs.Search.{Request, requestChecks, roomChecks}
+use Rattle.model.specs.Search.{requestChecks, roomChecks}
 use Rattle.search.specs.declared.request.Asked.{Asked}
 use Rattle.search.specs.declared.request.Asked.the-variants as asked
 

@@ -1,25 +1,23 @@
 -- What placing and removing come to: from the checks and the leaf to `Did`. Assumes nothing.
 use mathlib.Core.Path.{_≡_, refl, sym, ap, _∙_, subst}
-use mathlib.Core.Bool.{Bool, true, false, not}
-use mathlib.Core.List.{List, [], _∷_}
+use mathlib.Core.Bool.{true, false}
+use mathlib.Core.List.{List}
 use mathlib.Core.Option.{Option, none, some}
-use Prim.Native.Nat.{ℕ, _≤_, _<_}
+use Prim.Native.Nat.{ℕ, _<_}
 use native.Mathlib.Decide.{ℕ-discrete}
 use native.Mathlib.Omega.{arith}
 use borrow.Author.Tests.{leb-false, not-false}
-use lib.Dec.{eqb}
 use lib.ListN.{length, getD, set, drop}
 use Rattle.model.specs.Lists.{upFrom, any}
-use Rattle.model.specs.Refusals.{Refusal, Check, check, firstRefusal, Answer, answered, refused}
-use Rattle.model.specs.Loop.{Loop, size, depAt}
+use Rattle.model.specs.Refusals.{Refusal, firstRefusal, Answer, answered, refused}
+use Rattle.model.specs.Loop.{size, depAt}
 use Rattle.model.specs.File.{loopOf}
 use Rattle.model.specs.Legality.{Placing, breaks, fitsAt}
-use Rattle.model.specs.Session.{Setup, State, Call, place, remove, Reply, isPlaced, firstBroken, breach, checks, effect, step}
-use Rattle.model.specs.Session as model
+use Rattle.model.specs.Session.{State, Call, place, remove, Reply, isPlaced, firstBroken, breach, checks, effect, step}
 use Rattle.model.proofs.Lists.{and-both, false-not, none-first}
 use Rattle.model.proofs.Checks.{passes-head, passes-tail, passes-left, passes-right}
 use Rattle.model.proofs.Session.{step-refused, step-done}
-use Rattle.reservation.specs.Seats.{seatOf, seats}
+use Rattle.reservation.specs.Seats.{seats}
 use Rattle.reservation.proofs.Seats.{seat-none, seat-some}
 use Rattle.reservation.proofs.Placings.{conflicts, fits-tests}
 use Rattle.session.specs.Board.{setupAs, bare, startsOf, Board, IsPut}

@@ -1,19 +1,17 @@
 -- What opening comes to: the first refusal, or an empty session on cleared rows. Assumes nothing.
-use mathlib.Core.Path.{_≡_, refl, sym, ap, _∙_, subst}
-use mathlib.Core.List.{List, [], _∷_, _++_, map}
+use mathlib.Core.Path.{_≡_, refl, sym, ap, _∙_}
+use mathlib.Core.List.{List, [], _∷_, _++_}
 use mathlib.Core.Option.{Option, none, some}
 use Prim.Native.Nat.{ℕ, zero, suc, _+_, _≤_, _<_}
 use native.Mathlib.Nat.{not-suc-le-zero, le-of-suc-le-suc}
 use native.Mathlib.Omega.{arith}
 use borrow.Author.Tests.{ltb-false}
-use lib.ListN.{length, getD, take, drop, replicate, length-replicate, length-append, length-drop}
+use lib.ListN.{length, take, drop, replicate, length-replicate, length-append, length-drop}
 use lib.Seq.{take-at}
 use Rattle.model.specs.Refusals.{Refusal, firstRefusal, Answer, answered, refused, settled}
 use Rattle.model.specs.Loop.{size}
 use Rattle.model.specs.File.{loopOf, Accepted, fileChecks}
-use Rattle.model.specs.Legality.{Placing}
-use Rattle.model.specs.Table.{IsTable, cellsOf}
-use Rattle.model.specs.Session.{Setup, Starts, State, openChecks, openFile, openRows, start}
+use Rattle.model.specs.Session.{Setup, Starts, openChecks, openFile, openRows, start}
 use Rattle.model.proofs.File.{layout}
 use Rattle.model.proofs.Lists.{getD-filled}
 use Rattle.model.proofs.Checks.{passes-left, passes-head, passes-tail, at-most, at-least}
@@ -21,8 +19,8 @@ use Rattle.model.proofs.Legality.{legal-nothing}
 use Rattle.model.proofs.Table.{table-nil, cells-nothing}
 use Rattle.reservation.specs.Seats.{seatOf, seats}
 use Rattle.reservation.proofs.Stores.{cleared, cleared-length}
-use Rattle.session.specs.Board.{startsOf, setupAs, Sane, Board}
-use Rattle.session.specs.View.{fileOf, setupOf, stateOf, blank, Valid, closedSession, openingOf, Opened}
+use Rattle.session.specs.Board.{startsOf, setupAs, Board}
+use Rattle.session.specs.View.{fileOf, stateOf, blank, Valid, closedSession, Opened}
 use Rattle.session.specs.declared.Session.{Session}
 use Rattle.session.specs.declared.Checked.the-variants as checked
 use Rattle.session.proofs.Boards.{few-operations}

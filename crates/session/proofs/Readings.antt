@@ -1,15 +1,12 @@
 -- The starts that the model reads off the array of a session. Assumes nothing.
 use mathlib.Core.Path.{_≡_, refl, sym, ap, _∙_, fun-ext}
-use mathlib.Core.List.{List, [], _∷_, map}
-use mathlib.Core.Option.{Option, none, some}
+use mathlib.Core.List.{List, [], _∷_}
+use mathlib.Core.Option.{none}
 use Prim.Native.Nat.{ℕ, zero, suc, _≤_, _<_}
 use native.Mathlib.Decide.{decLt}
-use native.Mathlib.Nat.{le-of-suc-le-suc, not-suc-le-zero}
 use native.Mathlib.Omega.{arith}
 use lib.ListN.{length, getD, set, take, length-map, List·getD-map, List·getD-eq-default}
 use lib.Seq.{getD-take, length-take-le}
-use Rattle.model.specs.Loop.{Loop, size}
-use Rattle.model.specs.Legality.{Placing}
 use Rattle.model.specs.Session.{Starts, placedIn}
 use Rattle.reservation.specs.Seats.{seatOf, seats}
 use Rattle.session.specs.Board.{startsOf}

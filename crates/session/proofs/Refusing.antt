@@ -1,20 +1,19 @@
 -- What each call is refused for, check by check, off the array of a session. Assumes nothing.
 use mathlib.Core.Path.{_≡_, refl, sym, ap, _∙_, fun-ext}
-use mathlib.Core.Bool.{Bool, true, false, not, cond, _||_}
-use mathlib.Core.List.{List, [], _∷_, _++_}
+use mathlib.Core.Bool.{Bool, true, false}
+use mathlib.Core.List.{List, [], _∷_}
 use mathlib.Core.Option.{Option, none, some}
-use Prim.Native.Nat.{ℕ, zero, suc, _≤_, _<_}
+use Prim.Native.Nat.{ℕ, _≤_, _<_}
 use native.Mathlib.Omega.{arith}
 use borrow.Author.Tests.{le-leb, lt-leb, lt-ltb, le-ltb, leb-false}
-use lib.Dec.{eqb, leb, ltb}
-use lib.ListN.{length, getD, replicate}
-use Rattle.model.specs.Lists.{upFrom, any}
+use lib.Dec.{ltb}
+use lib.ListN.{getD, replicate}
 use Rattle.model.specs.Refusals.{Refusal, Check, check, firstRefusal}
-use Rattle.model.specs.Loop.{Use, Loop, size, opAt, LoopOk}
+use Rattle.model.specs.Loop.{size, opAt, LoopOk}
 use Rattle.model.specs.File.{loopOf, Accepted, fileChecks}
-use Rattle.model.specs.Legality.{Placing, selfConflict, conflictsWith}
+use Rattle.model.specs.Legality.{Placing, selfConflict}
 use Rattle.model.specs.Search.{outside}
-use Rattle.model.specs.Session.{Setup, State, placedIn, isPlaced, absent, taken, late, firstBroken, breach, nowhere, checks, place, force, remove, openChecks}
+use Rattle.model.specs.Session.{placedIn, isPlaced, absent, taken, late, firstBroken, breach, nowhere, checks, place, force, remove, openChecks}
 use Rattle.model.proofs.Lists.{getD-filled}
 use Rattle.model.proofs.File.{accepted-ok}
 use Rattle.model.proofs.Checks.{refusal-append, refusal-early, passes-head, passes-tail}
@@ -22,7 +21,7 @@ use Rattle.reservation.specs.Place.{firstTaken}
 use Rattle.reservation.specs.Seats.{seatOf, seats, firstBreach}
 use Rattle.reservation.proofs.Seats.{seat-none, seat-some}
 use Rattle.reservation.proofs.Placings.{conflicts, legal-digits, free-conflict, conflict-free}
-use Rattle.session.specs.Board.{setupAs, bare, startsOf, Named, Sane, Board}
+use Rattle.session.specs.Board.{setupAs, bare, Board}
 use Rattle.session.proofs.Readings.{starts-at, seats-are}
 
 -- ---- an operation, and its start

@@ -1,6 +1,5 @@
 -- From what the calls do to starts and rows to `Stepped`, for each return of each call. Assumes nothing.
-use mathlib.Core.Path.{_≡_, refl, sym, ap, ap₂, _∙_, subst}
-use mathlib.Core.Bool.{Bool, true, false, cond}
+use mathlib.Core.Path.{_≡_, refl, sym, ap, ap₂, _∙_}
 use mathlib.Core.List.{List, [], _∷_, _++_, map}
 use mathlib.Core.Logic.{_⊎_, inl, inr}
 use mathlib.Core.Option.{Option, none, some}
@@ -8,24 +7,23 @@ use Prim.Native.Nat.{ℕ, zero, suc, _+_, _-_, _≤_, _<_}
 use native.Mathlib.Nat.{not-suc-le-zero, le-of-suc-le-suc, eq-or-lt-of-le}
 use native.Mathlib.Numerals.{add-one}
 use native.Mathlib.Omega.{arith}
-use borrow.Author.Tests.{eq-eqb, ne-eqb, le-leb, lt-leb, lt-ltb, le-ltb}
-use lib.Dec.{eqb, leb, ltb}
+use borrow.Author.Tests.{eq-eqb, ne-eqb, le-leb, lt-ltb}
 use lib.ListN.{length, getD, set, take, drop, length-map, length-set, take-append-drop}
 use lib.Seq.{length-take-le, take-suc-set, take-take, getD-take, getD-set-same, getD-set-other}
 use Rattle.model.specs.Refusals.{Refusal, Check, firstRefusal, Answer, answered, refused, settled}
 use Rattle.model.specs.Loop.{size}
 use Rattle.model.specs.File.{loopOf}
 use Rattle.model.specs.Legality.{Placing}
-use Rattle.model.specs.Table.{IsTable, cellsOf, tableOf, tableAt}
-use Rattle.model.specs.Session.{Setup, Starts, State, Call, checkpoint, release, rollback, Reply, placedIn, stateTable, checks, effect, stepAs, step}
+use Rattle.model.specs.Table.{cellsOf, tableAt}
+use Rattle.model.specs.Session.{Setup, Starts, State, Call, checkpoint, release, rollback, Reply, placedIn, checks, effect, stepAs, step}
 use Rattle.model.specs.Session as model
 use Rattle.model.proofs.Lists.{map-append}
 use Rattle.model.proofs.Firsts.{getD-within}
 use Rattle.model.proofs.Table.{table-take}
 use Rattle.model.proofs.Session.{step-refused, step-done, checkpoint-done, rollback-done}
 use Rattle.reservation.specs.Seats.{seats}
-use Rattle.session.specs.Board.{startsOf, setupAs, bare, Sane, Board}
-use Rattle.session.specs.Moves.{replyOf, Did, Restored}
+use Rattle.session.specs.Board.{startsOf, Sane, Board}
+use Rattle.session.specs.Moves.{Did, Restored}
 use Rattle.session.specs.View.{fileOf, setupOf, stateOf, blank, Valid, Stepped}
 use Rattle.session.specs.declared.Starts as starts
 use Rattle.session.specs.declared.Session.{Session}

@@ -3,20 +3,19 @@ use mathlib.Core.Path.{_≡_}
 use mathlib.Core.Bool.{Bool, cond, _&&_}
 use mathlib.Core.List.{List}
 use mathlib.Core.Logic.{_⊎_}
-use mathlib.Core.Option.{Option}
-use Prim.Native.Nat.{ℕ, _^_, _<_, _≤_}
+use Prim.Native.Nat.{ℕ, _^_, _<_}
 use lib.Dec.{eqb, ltb}
-use lib.ListN.{length, getD, take, drop}
+use lib.ListN.{length, getD, drop}
 use Rattle.model.specs.Lists.{upFrom, any, sumOf}
 use Rattle.model.specs.Refusals.{Refusal, Answer, answered, refused}
-use Rattle.model.specs.Loop.{Loop, Dep, depAt, size}
+use Rattle.model.specs.Loop.{Loop, depAt, size}
 use Rattle.model.specs.File.{loopOf}
 use Rattle.model.specs.Legality.{Placing, touches, breaks}
 use Rattle.model.specs.Table.{IsTable, cellsOf}
-use Rattle.model.specs.Session.{Call, State, inTheWay, step}
+use Rattle.model.specs.Session.{Call, inTheWay, step}
 use Rattle.model.specs.Session as model
 use Rattle.reservation.specs.Seats.{seats}
-use Rattle.session.specs.Board.{startsOf, setupAs, bare, Sane, Board}
+use Rattle.session.specs.Board.{startsOf, setupAs, bare, Board}
 use Rattle.session.specs.declared.Reply.{Reply}
 use Rattle.session.specs.declared.Reply.the-variants as reply
 

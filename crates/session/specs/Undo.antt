@@ -2,9 +2,9 @@
 use mathlib.Core.Path.{_≡_}
 use mathlib.Core.List.{List, [], _∷_, _++_}
 use Prim.Native.Nat.{ℕ, _≤_}
-use lib.ListN.{length, take, drop}
+use lib.ListN.{take, drop}
 use Rattle.model.specs.Refusals.{Answer, answered}
-use Rattle.model.specs.Session.{Setup, State, Call, checkpoint, rollback, done, numbered, stateTable, start, after, replies}
+use Rattle.model.specs.Session.{Call, checkpoint, rollback, done, numbered, stateTable, start, after, replies}
 use Rattle.model.specs.Session as model
 use Rattle.model.specs.Undo.{NoneGives, markedBy, placings, OrderOf, AllDone}
 use Rattle.session.specs.Board.{setupAs}

@@ -1,15 +1,15 @@
 -- The verifier's answer, check by check. Assumes nothing.
-use mathlib.Core.Path.{_≡_, refl, sym, ap, ap₂, _∙_}
-use mathlib.Core.Bool.{Bool, true, false, _||_}
+use mathlib.Core.Path.{_≡_, refl, ap, _∙_}
+use mathlib.Core.Bool.{Bool, false}
 use mathlib.Core.List.{List, [], _∷_}
 use mathlib.Core.Option.{Option, none, some, Option·getD}
-use Prim.Native.Nat.{ℕ, _+_, _≤_, _<_}
+use Prim.Native.Nat.{ℕ, _≤_, _<_}
 use native.Mathlib.Omega.{arith}
-use lib.Dec.{leb, ltb}
+use lib.Dec.{leb}
 use lib.ListN.{length, getD, take}
 use borrow.Author.Tests.{lt-ltb, le-ltb, lt-leb, leb-false}
-use Rattle.model.specs.Lists.{upFrom, any, first}
-use Rattle.model.specs.Refusals.{Refusal, Check, firstRefusal, Answer, answered, refused, settled}
+use Rattle.model.specs.Lists.{upFrom, first}
+use Rattle.model.specs.Refusals.{Refusal, firstRefusal, answered, refused, settled}
 use Rattle.model.specs.Loop.{Loop, size}
 use Rattle.model.specs.File.{fileChecks, loopOf, Accepted}
 use Rattle.model.specs.Search.{outside}

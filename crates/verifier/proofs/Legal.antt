@@ -8,8 +8,8 @@ use native.Mathlib.Omega.{arith}
 use lib.Dec.{leb, ltb}
 use lib.ListN.{length, getD, take}
 use borrow.Author.Tests.{ltb-false, leb-false}
-use Rattle.model.specs.Lists.{upFrom, first}
-use Rattle.model.specs.Refusals.{Refusal, Check, firstRefusal, Answer, answered, settled}
+use Rattle.model.specs.Lists.{upFrom}
+use Rattle.model.specs.Refusals.{Refusal, firstRefusal, answered, settled}
 use Rattle.model.specs.Loop.{Loop, size}
 use Rattle.model.specs.File.{fileChecks, loopOf, Accepted}
 use Rattle.model.specs.Legality as legality

@@ -1,5 +1,4 @@
 -- What the verifier's answers say, in document 01's numbers. Assumes nothing.
-use mathlib.Core.List.{List}
 use mathlib.Core.Option.{Option, none, some}
 use Prim.Native.Nat.{ℕ}
 use Rattle.model.specs.Refusals.{Answer, answered, refused}

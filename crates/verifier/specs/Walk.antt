@@ -1,13 +1,12 @@
 -- The parts of the verdict, on a list of starts of which the first ones count. Assumes nothing.
-use mathlib.Core.Path.{_≡_}
 use mathlib.Core.Bool.{Bool, cond}
 use mathlib.Core.List.{List}
-use mathlib.Core.Option.{Option, none, some, Option·getD}
+use mathlib.Core.Option.{Option, some, Option·getD}
 use Prim.Native.Nat.{ℕ, _+_, _%_, _≤_, _<_}
 use lib.Dec.{eqb, leb}
 use lib.ListN.{length, getD, take}
 use Rattle.model.specs.Lists.{upFrom, pairs, first}
-use Rattle.model.specs.Loop.{Use, Op, Loop, size, opAt, depAt}
+use Rattle.model.specs.Loop.{Use, Op, Loop, size, depAt}
 use Rattle.model.specs.Legality.{placed, broken, pairConflict}
 use Rattle.reservation.specs.Meeting.{coversCell}
 

@@ -3,7 +3,7 @@ use mathlib.Core.Path.{sym, ap, _∙_}
 use mathlib.Core.List.{List}
 use Prim.Native.Nat.{ℕ}
 use borrow.Author.Needs.{needs}
-use Rattle.model.specs.File.{Accepted, loopOf}
+use Rattle.model.specs.File.{Accepted}
 use Rattle.model.specs.Bounds.{by-file, by-loop}
 use Rattle.loop_file.specs.Read.{readingOf}
 use Rattle.loop_file.proofs.Answers.{read-accepted, read-refused}

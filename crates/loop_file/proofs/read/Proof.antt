@@ -1,5 +1,5 @@
 -- `read` meets its contract: the three parts of the reader settle their tables, and the tables join to that of the whole file. Assumes nothing.
-use mathlib.Core.Path.{_≡_, refl, sym, ap, ap₂, _∙_}
+use mathlib.Core.Path.{_≡_, sym, ap, _∙_}
 use mathlib.Core.List.{List, _++_}
 use mathlib.Core.Option.{none, some}
 use Prim.Native.Nat.{ℕ, _/_, _≤_}
@@ -7,12 +7,12 @@ use native.Mathlib.Omega.{arith}
 use borrow.Author.Needs.{needs}
 use borrow.Author.Tests.{ltb-false}
 use lib.ListN.{length}
-use Rattle.model.specs.Refusals.{Refusal, firstRefusal, Answer, answered, refused}
-use Rattle.model.specs.File.{opCount, depCount, firstUse, lengthChecks, headChecks, contentsChecks, fileChecks, readFile, Accepted}
+use Rattle.model.specs.Refusals.{firstRefusal, Answer, answered}
+use Rattle.model.specs.File.{lengthChecks, headChecks, contentsChecks, fileChecks, readFile, Accepted}
 use Rattle.model.proofs.Lists.{or-false-left}
 use Rattle.model.proofs.Checks.{passes-left, passes-head}
 use Rattle.loop_file.specs.declared.reader.Part.{Part}
-use Rattle.loop_file.specs.declared.reader.Part.the-variants.{Fine, Refused}
+use Rattle.loop_file.specs.declared.reader.Part.the-variants.{Refused}
 use Rattle.loop_file.specs.declared.Reading.{Reading}
 use Rattle.loop_file.specs.Read.{refusal, Counts, partOf, bodyChecks, asReading, readingOf, counted}
 use Rattle.loop_file.proofs.Settled.{fine-none, fine-value, refused-some}

@@ -1,5 +1,4 @@
 -- `checkpoint` meets its contract. Assumes nothing.
-use native.Mathlib.Omega.{arith}
 use borrow.Author.Needs.{needs}
 use Rattle.session.proofs.Stepping.{full, stepped-checkpoint}
 use Rattle.session.proofs.checkpoint.Statement.{statement}

@@ -6,12 +6,12 @@ use Prim.Native.Nat.{ℕ, _≤_, _<_}
 use native.Mathlib.Omega.{arith}
 use borrow.Author.Needs.{needs}
 use lib.ListN.{length}
-use Rattle.model.specs.Refusals.{Answer, answered, refused}
+use Rattle.model.specs.Refusals.{answered, refused}
 use Rattle.model.specs.Loop.{size}
 use Rattle.model.specs.File.{Accepted, loopOf}
 use Rattle.model.specs.Verifier.{judge, verifyFile}
 use Rattle.loop_file.specs.Read.{refusal, readingOf}
-use Rattle.loop_file.proofs.Answers.{IsAccepted, read-accepted, read-refused}
+use Rattle.loop_file.proofs.Answers.{read-accepted, read-refused}
 use Rattle.reservation.specs.Seats.{brokenOf}
 use Rattle.verifier.specs.Walk.{firstLate, firstBroken, firstPair, Proposal}
 use Rattle.verifier.specs.Answer.{verdictOf, asVerdict, asBroken, asConflict, pairOf}

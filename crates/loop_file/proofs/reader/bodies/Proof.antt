@@ -1,13 +1,12 @@
 -- `reader::bodies` meets its contract: each part of the bodies settles its own table, and the tables join to that of the bodies. Assumes nothing.
 use mathlib.Core.Path.{_≡_, refl, sym, ap, ap₂, _∙_}
 use mathlib.Core.List.{List}
-use mathlib.Core.Option.{none, some}
+use mathlib.Core.Option.{none}
 use Prim.Native.Nat.{ℕ, _+_, _*_, _/_, _≤_}
 use native.Mathlib.Omega.{arith}
 use borrow.Author.Needs.{needs}
-use lib.ListN.{length}
 use Rattle.model.specs.Refusals.{firstRefusal, refused, settle}
-use Rattle.model.specs.File.{oper, uses, lengthOf, usesAt, depsAt, opCount, depCount, firstUse, usesChecks}
+use Rattle.model.specs.File.{uses, lengthOf, usesAt, depsAt, opCount, depCount, firstUse, usesChecks}
 use Rattle.model.proofs.File.{Shape, shape}
 use Rattle.loop_file.specs.Read.{refusal, partOf, opsTable, usesTable, depsTable}
 use Rattle.loop_file.proofs.Settled.{fine-none, fine-value, refused-some, none-answered, some-refused}

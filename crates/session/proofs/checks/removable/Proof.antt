@@ -1,8 +1,8 @@
 -- `checks::removable` meets its contract: one law of `Refusing` for each return. Assumes nothing.
 use mathlib.Core.Path.{_≡_, sym, _∙_}
-use Prim.Native.Nat.{ℕ, _<_}
+use Prim.Native.Nat.{_<_}
 use native.Mathlib.Omega.{arith}
-use lib.ListN.{length, getD}
+use lib.ListN.{getD}
 use Rattle.model.specs.Loop.{size}
 use Rattle.model.specs.File.{loopOf}
 use Rattle.model.proofs.File.{accepted-ok}

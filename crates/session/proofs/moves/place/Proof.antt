@@ -2,14 +2,14 @@
 use mathlib.Core.Path.{_≡_, sym, ap, _∙_}
 use mathlib.Core.List.{List}
 use mathlib.Core.Option.{none}
-use Prim.Native.Nat.{ℕ, _<_}
+use Prim.Native.Nat.{ℕ}
 use native.Mathlib.Omega.{arith}
 use borrow.Author.Needs.{needs}
-use lib.ListN.{length, take}
+use lib.ListN.{take}
 use lib.Seq.{length-take-le}
 use Rattle.model.specs.Refusals.{firstRefusal}
 use Rattle.model.specs.Session.{checks, place}
-use Rattle.session.specs.Board.{setupAs, bare, Board}
+use Rattle.session.specs.Board.{setupAs, bare}
 use Rattle.session.specs.Checks.{refusalOf}
 use Rattle.session.proofs.Boards.{board-far}
 use Rattle.session.proofs.Doing.{blank-is, did-refused, place-inside, place-open, place-near, place-fits, did-place}

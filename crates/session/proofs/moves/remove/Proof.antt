@@ -2,14 +2,13 @@
 use mathlib.Core.Path.{_≡_, sym, ap, _∙_}
 use mathlib.Core.List.{List}
 use mathlib.Core.Option.{none}
-use Prim.Native.Nat.{ℕ, _<_}
-use native.Mathlib.Omega.{arith}
+use Prim.Native.Nat.{ℕ}
 use borrow.Author.Needs.{needs}
-use lib.ListN.{length, take}
+use lib.ListN.{take}
 use lib.Seq.{length-take-le}
 use Rattle.model.specs.Refusals.{firstRefusal}
 use Rattle.model.specs.Session.{checks, remove}
-use Rattle.session.specs.Board.{setupAs, bare, Board}
+use Rattle.session.specs.Board.{setupAs, bare}
 use Rattle.session.specs.Checks.{refusalOf}
 use Rattle.session.proofs.Doing.{did-refused, remove-inside, remove-placed, did-remove}
 use Rattle.session.proofs.moves.remove.Statement.{statement}

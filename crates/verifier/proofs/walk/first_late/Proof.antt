@@ -1,5 +1,5 @@
 -- `walk::first_late` meets its contract. The invariant: every start passed is below 4,096. Assumes nothing.
-use mathlib.Core.Path.{_≡_, sym, ap, _∙_}
+use mathlib.Core.Path.{_≡_, sym, ap}
 use mathlib.Core.Bool.{Bool, false}
 use mathlib.Core.List.{List}
 use mathlib.Core.Option.{Option, Option·getD}
@@ -8,7 +8,7 @@ use native.Mathlib.Omega.{arith}
 use lib.Dec.{leb}
 use lib.ListN.{getD}
 use borrow.Author.Tests.{le-leb, lt-leb}
-use Rattle.model.specs.Lists.{upFrom, first}
+use Rattle.model.specs.Lists.{upFrom}
 use Rattle.model.proofs.Lists.{below-next, row-first, row-any, first-none}
 use Rattle.verifier.specs.Walk.{firstLate}
 use Rattle.verifier.proofs.walk.first_late.Statement.{statement}
