@@ -1,5 +1,5 @@
 -- What the search of a file that has passed every check uses: the table that is cleared before the sweep, and the answer at each end of it. Assumes nothing.
-use mathlib.Core.Path.{_≡_, refl, sym, ap, ap₂, _∙_}
+use mathlib.Core.Path.{_≡_, sym, ap, ap₂, _∙_}
 use mathlib.Core.List.{List, _++_}
 use Prim.Native.Nat.{ℕ, suc, _+_, _-_, _≤_, max}
 use native.Mathlib.Omega.{arith}
@@ -14,7 +14,7 @@ use Rattle.model.specs.Search.{startOf, lastEnd, stageCount, ceilDiv, Request, 
 use Rattle.model.proofs.File.{accepted-ok}
 use Rattle.model.proofs.Sums.{max-same}
 use Rattle.reservation.proofs.Stores.{cleared, cleared-length}
-use Rattle.search.specs.Sweep.{Clear, outcomeOf, SweptIs, Ranged}
+use Rattle.search.specs.Sweep.{Clear, outcomeOf, SweptIs, Ranged, keptOf}
 use Rattle.search.specs.Answer.{Passed, Attempted}
 use Rattle.search.specs.declared.Swept.{Swept}
 use Rattle.search.specs.declared.Swept.the-variants as swept
@@ -53,16 +53,30 @@ clears {f} {list} {rows} {n} {recurrence} starts rows′ resource least p wide e
 
 -- ---- after the sweep
 
--- what is then known: the answer r, the starts and the rows
-pub record Come (f : List ℕ) (n resource recurrence least cap horizon budget : ℕ) (rows starts rows′ : List ℕ) (r : Swept) : Type 0 where
+-- the list gets one start for each operation at most
+kept-few : (r : Swept) (n : ℕ) → keptOf r n ≤ n
+kept-few (swept.Found ii left) n = omega arith
+kept-few (swept.Nothing left) n = omega arith
+kept-few (swept.Spent ii) n = omega arith
+
+-- so the list has room for what it gets, and the starts have as many
+pub room : {f list rows : List ℕ} {n recurrence cap horizon : ℕ} (starts : List ℕ) (r : Swept) (count : ℕ) → Passed f n recurrence cap horizon list rows → length starts ≡ 64 → count ≡ keptOf r n
+    → (count ≤ length list) × (count ≤ length starts)
+room {f} {n = n} starts r count p wide e =
+    let most : keptOf r n ≤ n = kept-few r n in
+    (omega (arith, p .room), omega (arith, few f n (p .accepted) (p .is-size)))
+
+-- what is known once the list is written: the answer r, the starts, the list and the rows
+pub record Come (f : List ℕ) (n resource recurrence least cap horizon budget : ℕ) (list rows starts list′ rows′ : List ℕ) (r : Swept) : Type 0 where
   pub swept-is : SweptIs f n least cap horizon budget starts r
   pub ranged : Ranged least cap budget r
   pub least-is : least ≡ max resource recurrence
   pub wide : length starts ≡ 64
+  pub list-is : list′ ≡ take (keptOf r n) starts ++ drop (keptOf r n) list
   pub rows-are : rows′ ≡ replicate 4096 0 ++ drop 4096 rows
 
-module _ {f list rows starts rows′ : List ℕ} {n resource recurrence least cap horizon budget : ℕ} {r : Swept} (p : Passed f n recurrence cap horizon list rows)
-    (come : Come f n resource recurrence least cap horizon budget rows starts rows′ r) where
+module _ {f list rows starts list′ rows′ : List ℕ} {n resource recurrence least cap horizon budget : ℕ} {r : Swept} (p : Passed f n recurrence cap horizon list rows)
+    (come : Come f n resource recurrence least cap horizon budget list rows starts list′ rows′ r) where
   -- the request
   abbrev request : Request
   request = record { cap = cap; horizon = horizon; budget = budget }
@@ -71,15 +85,15 @@ module _ {f list rows starts rows′ : List ℕ} {n resource recurrence least ca
   abbrev lower : Lower
   lower = record { resource = resource; recurrence = recurrence }
 
-  -- the starts have room for the loop's
-  pub room : n ≤ length starts
-  room = omega (arith, few f n (p .accepted) (p .is-size), come .wide)
-
   -- the answer is the model's, from the larger bound on
   comes-to : (s : Swept) → r ≡ s → outcomeOf (loopOf f) request lower n starts s ≡ sweep (loopOf f) request lower 0 (intervals lower cap)
   comes-to s e =
       ap (outcomeOf (loopOf f) request lower n starts) (sym e) ∙ come .swept-is lower
       ∙ ap (λ (m : ℕ). sweep (loopOf f) request lower 0 (upFrom m (suc cap - m))) (come .least-is)
+
+  -- the list has what the answer gives it
+  written : (s : Swept) → r ≡ s → list′ ≡ take (keptOf s n) starts ++ drop (keptOf s n) list
+  written s e = come .list-is ∙ ap (λ (t : Swept). take (keptOf t n) starts ++ drop (keptOf t n) list) e
 
   -- a list is found at an interval in range, with what is left
   pub found-ranged : (ii left : ℕ) → r ≡ swept.Found ii left → (1 ≤ ii) × (ii ≤ 4096) × (left ≤ budget)
@@ -92,12 +106,13 @@ module _ {f list rows starts rows′ : List ℕ} {n resource recurrence least ca
   none-ranged left e = rw e at (come .ranged)
 
   -- a list is found, and written
-  pub finds : (list′ : List ℕ) (ii left stages : ℕ) → r ≡ swept.Found ii left → list′ ≡ take n starts ++ drop n list → stages ≡ stageCount (loopOf f) ii starts
+  pub finds : (ii left stages : ℕ) → r ≡ swept.Found ii left → stages ≡ stageCount (loopOf f) ii starts
       → Attempted f resource recurrence cap horizon budget list rows
       (searched.Found (record { interval = ii; resource = resource; recurrence = recurrence; stages = stages; probes = budget - left })) list′ rows′
-  finds list′ ii left stages e w s =
+  finds ii left stages e s =
+      let w : list′ ≡ take n starts ++ drop n list = written (swept.Found ii left) e in
       let size-is : n ≡ size (loopOf f) = p .is-size in
-      let long : length (take n starts) ≡ n = length-take-le n starts room in
+      let long : length (take n starts) ≡ n = length-take-le n starts (omega (arith, few f n (p .accepted) (p .is-size), come .wide)) in
       let front : take (size (loopOf f)) list′ ≡ take n starts =
       ap (take (size (loopOf f))) w ∙ take-at (take n starts) (drop n list) (size (loopOf f)) (long ∙ size-is) in
       record {
@@ -109,10 +124,10 @@ module _ {f list rows starts rows′ : List ℕ} {n resource recurrence least ca
         rows-are = come .rows-are;
       }
 
-  -- there is none
-  pub ends : (left : ℕ) → r ≡ swept.Nothing left → Attempted f resource recurrence cap horizon budget list rows (searched.Ended 10 cap (budget - left)) list rows′
-  ends left e = record { says = ap answered (comes-to (swept.Nothing left) e); list-is = refl; rows-are = come .rows-are }
+  -- there is none, and the list is as it was
+  pub ends : (left : ℕ) → r ≡ swept.Nothing left → Attempted f resource recurrence cap horizon budget list rows (searched.Ended 10 cap (budget - left)) list′ rows′
+  ends left e = record { says = ap answered (comes-to (swept.Nothing left) e); list-is = written (swept.Nothing left) e; rows-are = come .rows-are }
 
-  -- the budget is spent
-  pub stops : (ii : ℕ) → r ≡ swept.Spent ii → Attempted f resource recurrence cap horizon budget list rows (searched.Ended 11 ii budget) list rows′
-  stops ii e = record { says = ap answered (comes-to (swept.Spent ii) e); list-is = refl; rows-are = come .rows-are }
+  -- the budget is spent, and the list is as it was
+  pub stops : (ii : ℕ) → r ≡ swept.Spent ii → Attempted f resource recurrence cap horizon budget list rows (searched.Ended 11 ii budget) list′ rows′
+  stops ii e = record { says = ap answered (comes-to (swept.Spent ii) e); list-is = written (swept.Spent ii) e; rows-are = come .rows-are }

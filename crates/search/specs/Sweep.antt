@@ -40,3 +40,9 @@ abbrev pub Ranged : (least cap budget : ℕ) → Swept → Type 0
 Ranged least cap budget (swept.Found ii left) = (least ≤ ii) × (ii ≤ cap) × (left ≤ budget)
 Ranged least cap budget (swept.Nothing left) = left ≤ budget
 Ranged least cap budget (swept.Spent ii) = Unit {0}
+
+-- how many starts the caller's list gets: n where a list is found, else none
+abbrev pub keptOf : Swept → ℕ → ℕ
+keptOf (swept.Found ii left) n = n
+keptOf (swept.Nothing left) n = 0
+keptOf (swept.Spent ii) n = 0

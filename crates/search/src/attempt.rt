@@ -9,6 +9,7 @@ use reservation::clear::clear_rows;
 ghost use mathlib.Core.Path.{_≡_};
 ghost use Prim.Native.Nat.{max};
 ghost use Rattle.search.specs.Answer.{Passed, Attempted};
+ghost use Rattle.search.specs.Sweep.{keptOf};
 
 // The larger of two bounds.
 fn larger(a: usize, b: usize) -> usize
@@ -18,6 +19,17 @@ fn larger(a: usize, b: usize) -> usize
         return b;
     }
     a
+}
+
+// How many starts the caller's list gets: one for each operation where a list is found, else none.
+fn kept(s: Swept, n: usize) -> usize
+    ensures { λ r. ⌜ r ≡ keptOf s n ⌝ }
+{
+    match s {
+        Swept::Found(_, _) => n,
+        Swept::Nothing(_) => 0,
+        Swept::Spent(_) => 0,
+    }
 }
 
 // Clears the table, goes through the intervals, and writes the list where one is found. The starts are kept apart until then: the caller's list is not written without a schedule.
@@ -47,17 +59,15 @@ pub fn attempt(
         horizon,
         budget,
     );
+    write_list(list, &starts, kept(swept, n));
     match swept {
-        Swept::Found(ii, left) => {
-            write_list(list, &starts, n);
-            Searched::Found(Solution {
-                interval: ii,
-                resource: resource,
-                recurrence: recurrence,
-                stages: stage_count(file, ii, &starts),
-                probes: budget - left,
-            })
-        }
+        Swept::Found(ii, left) => Searched::Found(Solution {
+            interval: ii,
+            resource: resource,
+            recurrence: recurrence,
+            stages: stage_count(file, ii, &starts),
+            probes: budget - left,
+        }),
         Swept::Nothing(left) => Searched::Ended(10, cap, budget - left),
         Swept::Spent(ii) => Searched::Ended(11, ii, budget),
     }

@@ -1,7 +1,7 @@
--- `attempt::attempt` meets its contract. What is known after the sweep is said once, in `come`. Assumes nothing.
+-- `attempt::attempt` meets its contract. What is known once the list is written is said once, in `come`. Assumes nothing.
 use mathlib.Core.Path.{refl, _∙_}
 use borrow.Author.Needs.{needs}
-use Rattle.search.proofs.Attempts.{clears, Come, room, found-ranged, none-ranged, finds, ends, stops}
+use Rattle.search.proofs.Attempts.{clears, room, Come, found-ranged, none-ranged, finds, ends, stops}
 use Rattle.search.proofs.attempt.attempt.Statement.{statement}
 use Rattle.search.proofs.attempt.attempt.Tie as tie
 
@@ -27,55 +27,77 @@ sweep-requires c κs = clears _ _ (start c .args .resource) _ (start c .pre) ref
 
 -- ---- once the intervals are swept
 
+slice-aggregate-write-list : tie.Need-slice-aggregate-write-list
+slice-aggregate-write-list c = search needs
+
+kept-requires : tie.Need-kept-requires
+kept-requires c κs = search needs
+
+-- the sweep, from before the write
+abbrev sweeping : tie.After-kept → tie.After-sweep
+sweeping c = c .before .before .before .before .before .before
+
+write-list-requires : tie.Need-write-list-requires
+write-list-requires c κs = let s = sweeping c in room (s .sweep .last .1 .0) (s .sweep .result) _ (start (s .before) .pre) (search needs) (c .kept .ensures)
+
+-- ---- once the list is written
+
+-- the entry
+abbrev entry : tie.After-write-list → tie.Start
+entry c = start (sweeping (c .before) .before)
+
 -- what is then known
-come : (c : tie.After-sweep) → let a = start (c .before) .args in
-    Come (a .file .now) (a .n) (a .resource) (a .recurrence) (c .before .larger .result) (a .cap) (a .horizon) (a .budget) (a .rows .now) (c .sweep .last .1 .0) (c .sweep .last .1 .1 .0) (c .sweep .result)
+come : (c : tie.After-write-list) → let a = entry c .args in
+    let s = sweeping (c .before) in
+    Come (a .file .now) (a .n) (a .resource) (a .recurrence) (s .before .larger .result) (a .cap) (a .horizon) (a .budget) (a .list .now) (a .rows .now) (s .sweep .last .1 .0) (c .write-list .last .0) (s .sweep .last .1 .1 .0)
+    (s .sweep .result)
 come c =
+    let s = sweeping (c .before) in
     record {
-      swept-is = c .sweep .ensures .0;
-      ranged = c .sweep .ensures .1 .1;
-      least-is = c .before .larger .ensures;
+      swept-is = s .sweep .ensures .0;
+      ranged = s .sweep .ensures .1 .1;
+      least-is = s .before .larger .ensures;
       wide = search needs;
-      rows-are = c .sweep .ensures .1 .0 ∙ clearing (c .before) .clear-rows .ensures;
+      list-is = rw (c .before .kept .ensures) at (c .write-list .ensures);
+      rows-are = s .sweep .ensures .1 .0 ∙ clearing (s .before) .clear-rows .ensures;
     }
 
 enum-known-swept : tie.Need-enum-known-swept
 enum-known-swept c = search needs
 
-slice-aggregate-write-list : tie.Need-slice-aggregate-write-list
-slice-aggregate-write-list c = search needs
-
--- the sweep, from where its answer has a list
-abbrev swept-at : tie.After-swept → tie.After-sweep
-swept-at c = c .before .before .before .before .before
-
-write-list-requires : tie.Need-write-list-requires
-write-list-requires c κs = let s = swept-at (c .before .before .before) in let p = start (s .before) .pre in (p .room, room p (come s))
-
 slice-aggregate-stage-count : tie.Need-slice-aggregate-stage-count
 slice-aggregate-stage-count c = search needs
 
+-- the write, from where the answer has a list, where it has none, and where the budget is spent
+abbrev found-at : tie.After-swept → tie.After-write-list
+found-at c = c .before .before .before .before
+
+abbrev none-at : tie.After-swept2 → tie.After-write-list
+none-at c = c .before .before .before .before
+
+abbrev spent-at : tie.After-swept3 → tie.After-write-list
+spent-at c = c .before .before .before .before
+
 stage-count-requires : tie.Need-stage-count-requires
 stage-count-requires c κs =
-    let w = c .before .before .before .before .before .before .before in
-    let s = swept-at w in
-    let p = start (s .before) .pre in
-    let g = found-ranged p (come s) _ _ (w .swept .given .1) in
-    (p .accepted, g .0, g .1)
+    let m = c .before .before in
+    let w = found-at m in
+    let g = found-ranged (entry w .pre) (come w) _ _ (m .swept .given .1) in
+    (entry w .pre .accepted, g .0, g .1)
 
-sub-t33 : tie.Need-sub-t33
-sub-t33 c =
-    let w = c .before .before .before .before .before .before .before .before in
-    let s = swept-at w in
-    found-ranged (start (s .before) .pre) (come s) _ _ (w .swept .given .1) .2
+sub-t32 : tie.Need-sub-t32
+sub-t32 c =
+    let m = c .before .before .before in
+    let w = found-at m in
+    found-ranged (entry w .pre) (come w) _ _ (m .swept .given .1) .2
 
 enum-known-swept-2 : tie.Need-enum-known-swept-2
 enum-known-swept-2 c = search needs
 
-sub-t35 : tie.Need-sub-t35
-sub-t35 c =
-    let s = c .before .before .before .before .before .before in
-    none-ranged (start (s .before) .pre) (come s) _ (c .before .swept2 .given .1)
+sub-t34 : tie.Need-sub-t34
+sub-t34 c =
+    let w = none-at (c .before) in
+    none-ranged (entry w .pre) (come w) _ (c .before .swept2 .given .1)
 
 enum-known-swept-3 : tie.Need-enum-known-swept-3
 enum-known-swept-3 c = search needs
@@ -88,25 +110,31 @@ same-length-2 c = search needs
 
 returns : tie.Need-returns
 returns c =
-    let w = c .before .before .before .before .before .before .before .before in
-    let s = swept-at w in
-    finds (start (s .before) .pre) (come s) _ _ _ _ (w .swept .given .1) (c .before .before .before .before .write-list .ensures) (c .stage-count .ensures)
+    let m = c .before .before .before in
+    let w = found-at m in
+    finds (entry w .pre) (come w) _ _ _ (m .swept .given .1) (c .stage-count .ensures)
 
 same-length-3 : tie.Need-same-length-3
 same-length-3 c = search needs
 
-returns-2 : tie.Need-returns-2
-returns-2 c =
-    let s = c .before .before .before .before .before .before in
-    ends (start (s .before) .pre) (come s) _ (c .before .swept2 .given .1)
-
 same-length-4 : tie.Need-same-length-4
 same-length-4 c = search needs
 
+returns-2 : tie.Need-returns-2
+returns-2 c =
+    let w = none-at (c .before) in
+    ends (entry w .pre) (come w) _ (c .before .swept2 .given .1)
+
+same-length-5 : tie.Need-same-length-5
+same-length-5 c = search needs
+
+same-length-6 : tie.Need-same-length-6
+same-length-6 c = search needs
+
 returns-3 : tie.Need-returns-3
 returns-3 c =
-    let s = c .before .before .before .before .before .before in
-    stops (start (s .before) .pre) (come s) _ (c .before .swept3 .given .1)
+    let w = spent-at (c .before) in
+    stops (entry w .pre) (come w) _ (c .before .swept3 .given .1)
 
 pub attempt-spec : {M : Type 1} → statement M
 attempt-spec =
@@ -116,19 +144,22 @@ attempt-spec =
     slice-aggregate-sweep
     larger-requires
     sweep-requires
-    enum-known-swept
     slice-aggregate-write-list
+    kept-requires
     write-list-requires
+    enum-known-swept
     slice-aggregate-stage-count
     stage-count-requires
-    sub-t33
+    sub-t32
     enum-known-swept-2
-    sub-t35
+    sub-t34
     enum-known-swept-3
     same-length
     same-length-2
     returns
     same-length-3
-    returns-2
     same-length-4
+    returns-2
+    same-length-5
+    same-length-6
     returns-3)
