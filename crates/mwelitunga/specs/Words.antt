@@ -1,0 +1,73 @@
+-- The answers as numbers: what the C functions return and write. Assumes nothing.
+use mathlib.Core.Path.{_≡_}
+use mathlib.Core.List.{List, [], _∷_}
+use Prim.Native.Nat.{ℕ, suc}
+use lib.ListN.{length, set}
+use Rattle.model.specs.Refusals.{Refusal, Answer, answered, refused}
+use Rattle.model.specs.Bounds.{Lower, BoundsIs}
+use Rattle.model.specs.Search.{Request, Schedule, Outcome, found, ended, SearchIs, listAfter, rowsAfter}
+use Rattle.model.specs.Verifier.{Verdict, legal, breach, clash}
+use Rattle.loop_file.specs.Read.{Counts}
+
+-- these numbers stored in the places from i on
+unfoldable pub written : ℕ → List ℕ → List ℕ → List ℕ
+written i [] old = old
+written i (w ∷ ws) old = written (suc i) ws (set old i w)
+
+-- what is returned: 0, or the refusal's number
+abbrev pub numberOf : {A : Type 0} → Answer A → ℕ
+numberOf (answered a) = 0
+numberOf (refused r) = r .number
+
+-- the eight numbers that are written: 0 and what was found, or the refusal's detail
+abbrev pub wordsOf : {A : Type 0} → (A → List ℕ) → Answer A → List ℕ
+wordsOf tell (answered a) = 0 ∷ tell a
+wordsOf tell (refused r) = r .detail ∷ 0 ∷ 0 ∷ 0 ∷ 0 ∷ 0 ∷ 0 ∷ 0 ∷ []
+
+-- a call whose answer is a, told by `tell`: r is returned, and `after` stands where `before` stood
+pub record Gives {A : Type 0} (a : Answer A) (tell : A → List ℕ) (r : ℕ) (before after : List ℕ) : Type 0 where
+  pub number : r ≡ numberOf a
+  pub words : after ≡ written 0 (wordsOf tell a) before
+
+-- operations, uses, dependences
+abbrev pub countWords : Counts → List ℕ
+countWords c = c .ops ∷ c .uses ∷ c .deps ∷ 0 ∷ 0 ∷ 0 ∷ 0 ∷ []
+
+-- resource and recurrence bound
+abbrev pub lowerWords : Lower → List ℕ
+lowerWords b = b .resource ∷ b .recurrence ∷ 0 ∷ 0 ∷ 0 ∷ 0 ∷ 0 ∷ []
+
+-- legal, a broken dependence, a conflict
+abbrev pub verdictWords : Verdict → List ℕ
+verdictWords legal = 0 ∷ 0 ∷ 0 ∷ 0 ∷ 0 ∷ 0 ∷ 0 ∷ []
+verdictWords (breach e) = 1 ∷ e ∷ 0 ∷ 0 ∷ 0 ∷ 0 ∷ 0 ∷ []
+verdictWords (clash a b) = 2 ∷ a ∷ b ∷ 0 ∷ 0 ∷ 0 ∷ 0 ∷ []
+
+-- the bounds of a file
+pub record BoundsGiven (f : List ℕ) (r : ℕ) (before after : List ℕ) : Type 0 where
+  pub answer : Answer Lower
+  pub is : BoundsIs f answer
+  pub gives : Gives answer lowerWords r before after
+
+-- ---- the search
+
+-- what is returned
+abbrev pub outcomeNumber : Answer Outcome → ℕ
+outcomeNumber (answered (found s)) = 0
+outcomeNumber (answered (ended x count)) = x .number
+outcomeNumber (refused x) = x .number
+
+-- the eight numbers
+abbrev pub outcomeWords : Answer Outcome → List ℕ
+outcomeWords (answered (found s)) = 0 ∷ s .ii ∷ s .bounds .resource ∷ s .bounds .recurrence ∷ s .stages ∷ s .count ∷ 0 ∷ 0 ∷ []
+outcomeWords (answered (ended x count)) = x .detail ∷ 0 ∷ 0 ∷ 0 ∷ 0 ∷ count ∷ 0 ∷ 0 ∷ []
+outcomeWords (refused x) = x .detail ∷ 0 ∷ 0 ∷ 0 ∷ 0 ∷ 0 ∷ 0 ∷ 0 ∷ []
+
+-- the search for a file and a request: the answer is the model's, and so is what list, table and answer then hold
+pub record SearchGiven (f : List ℕ) (cap horizon budget : ℕ) (list rows before : List ℕ) (r : ℕ) (list′ rows′ after : List ℕ) : Type 0 where
+  pub answer : Answer Outcome
+  pub is : SearchIs f (record { cap = cap; horizon = horizon; budget = budget }) (length list) (length rows) answer
+  pub number : r ≡ outcomeNumber answer
+  pub words : after ≡ written 0 (outcomeWords answer) before
+  pub list-is : list′ ≡ listAfter answer list
+  pub rows-are : rows′ ≡ rowsAfter answer rows

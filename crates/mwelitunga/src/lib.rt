@@ -1,0 +1,156 @@
+// The library that a compiler links: the entry points as C functions over numbers and slices. A slice is a pointer and a length, `answer` a pointer to eight numbers. A function that has
+// an answer returns 0, or the number of the refusal, and writes all eight: first the refusal's detail, 0 where there is none, then what was found, then zeros. None asks for anything.
+use bounds::LowerBounds;
+use loop_file::Reading;
+use search::Searched;
+use verifier::Verdict;
+ghost use mathlib.Core.Path.{_≡_};
+ghost use mathlib.Core.List.{[], _∷_};
+ghost use Rattle.model.specs.File.{readFile};
+ghost use Rattle.model.specs.Search as model;
+ghost use Rattle.model.specs.Verifier.{verifyFile};
+ghost use Rattle.loop_file.specs.Read.{counted};
+ghost use Rattle.mwelitunga.specs.Words.{written, Gives, countWords, verdictWords, BoundsGiven, SearchGiven};
+
+// The eight numbers of an answer, the last two 0.
+fn write_answer(answer: &mut [u64; 8], a: usize, b: usize, c: usize, d: usize, e: usize, f: usize)
+    ensures { λ _. ⌜ now (answer .exit) ≡ written 0 (a ∷ b ∷ c ∷ d ∷ e ∷ f ∷ 0 ∷ 0 ∷ []) (now (answer .entry)) ⌝ }
+{
+    answer[0] = a as u64;
+    answer[1] = b as u64;
+    answer[2] = c as u64;
+    answer[3] = d as u64;
+    answer[4] = e as u64;
+    answer[5] = f as u64;
+    answer[6] = 0;
+    answer[7] = 0;
+}
+
+// Reads a loop file: the numbers of operations, uses and dependences.
+#[no_mangle]
+pub extern "C" fn mw_read(file: &[u8], answer: &mut [u64; 8]) -> usize
+    ensures { λ r. ⌜ Gives (counted (readFile (now (file .entry)))) countWords r (now (answer .entry)) (now (answer .exit)) ⌝ }
+{
+    let reading = loop_file::read(file);
+    match reading {
+        Reading::Accepted(ops, uses, deps) => {
+            write_answer(answer, 0, ops, uses, deps, 0, 0);
+            0
+        }
+        Reading::Refused(number, detail) => {
+            write_answer(answer, detail, 0, 0, 0, 0, 0);
+            number
+        }
+    }
+}
+
+// The two lower bounds: resource, recurrence.
+#[no_mangle]
+pub extern "C" fn mw_bounds(file: &[u8], answer: &mut [u64; 8]) -> usize
+    ensures { λ r. ⌜ BoundsGiven (now (file .entry)) r (now (answer .entry)) (now (answer .exit)) ⌝ }
+{
+    let lower = bounds::bounds(file);
+    match lower {
+        LowerBounds::Found(resource, recurrence) => {
+            write_answer(answer, 0, resource, recurrence, 0, 0, 0);
+            0
+        }
+        LowerBounds::Refused(number, detail) => {
+            write_answer(answer, detail, 0, 0, 0, 0, 0);
+            number
+        }
+    }
+}
+
+// The verdict on a list of starts: 0 legal, 1 a broken dependence and its number, 2 a conflict and its two operations.
+#[no_mangle]
+pub extern "C" fn mw_verify(
+    file: &[u8],
+    interval: usize,
+    starts: &[u16],
+    answer: &mut [u64; 8],
+) -> usize
+    ensures { λ r. ⌜ Gives (verifyFile (now (file .entry)) interval (now (starts .entry))) verdictWords r (now (answer .entry)) (now (answer .exit)) ⌝ }
+{
+    let verdict = verifier::verify(file, interval, starts);
+    match verdict {
+        Verdict::Legal => {
+            write_answer(answer, 0, 0, 0, 0, 0, 0);
+            0
+        }
+        Verdict::Broken(e) => {
+            write_answer(answer, 0, 1, e, 0, 0, 0);
+            0
+        }
+        Verdict::Conflict(a, b) => {
+            write_answer(answer, 0, 2, a, b, 0, 0);
+            0
+        }
+        Verdict::Refused(number, detail) => {
+            write_answer(answer, detail, 0, 0, 0, 0, 0);
+            number
+        }
+    }
+}
+
+// The search: interval, resource bound, recurrence bound, stages, probes; the starts in the list. Refusals 10 and 11 also tell the probes, in the same place.
+#[no_mangle]
+pub extern "C" fn mw_search(
+    file: &[u8],
+    cap: usize,
+    horizon: usize,
+    budget: usize,
+    starts: &mut [u16],
+    rows: &mut [u64],
+    answer: &mut [u64; 8],
+) -> usize
+    ensures { λ r. ⌜ SearchGiven (now (file .entry)) cap horizon budget (now (starts .entry)) (now (rows .entry)) (now (answer .entry)) r (now (starts .exit)) (now (rows .exit)) (now (answer .exit)) ⌝ }
+{
+    let searched = search::search(file, cap, horizon, budget, starts, rows);
+    match searched {
+        Searched::Found(s) => {
+            write_answer(
+                answer,
+                0,
+                s.interval,
+                s.resource,
+                s.recurrence,
+                s.stages,
+                s.probes,
+            );
+            0
+        }
+        Searched::Ended(number, detail, probes) => {
+            write_answer(answer, detail, 0, 0, 0, 0, probes);
+            number
+        }
+        Searched::Refused(number, detail) => {
+            write_answer(answer, detail, 0, 0, 0, 0, 0);
+            number
+        }
+    }
+}
+
+// The stage of a start.
+#[no_mangle]
+pub extern "C" fn mw_stage(interval: usize, start: usize) -> usize
+    ensures { λ r. ⌜ r ≡ model.stage interval start ⌝ }
+{
+    search::stages::stage(interval, start)
+}
+
+// The cycle of a start.
+#[no_mangle]
+pub extern "C" fn mw_cycle(interval: usize, start: usize) -> usize
+    ensures { λ r. ⌜ r ≡ model.cycle interval start ⌝ }
+{
+    search::stages::cycle(interval, start)
+}
+
+// The order of an operation in its stage.
+#[no_mangle]
+pub extern "C" fn mw_order(interval: usize, starts: &[u16], op: usize) -> usize
+    ensures { λ r. ⌜ r ≡ model.orderOf interval (now (starts .entry)) op ⌝ }
+{
+    search::stages::order(interval, starts, op)
+}

@@ -1,0 +1,118 @@
+/* The C functions of the Mwelitunga library: loop files read, bounded, scheduled and verified.
+ *
+ * Link target/staticlib/libmwelitunga.a, which `rt staticlib mwelitunga` writes once the library is proved
+ * (x86-64 Linux; of the C library it takes memcpy and memset). docs/FORMAT.md describes the loop file.
+ *
+ * For every function:
+ * - Any bytes, numbers and starts may be passed: what is out of range is refused, or has the result that the comment says.
+ * - A list is a pointer and the number of elements behind it. No pointer may be null, even where the number is 0:
+ *   pass the address of any object of that type.
+ * - What is written (answer, starts and rows of mw_search) may not overlap anything else that is passed to the
+ *   same call. Nothing is kept after the call, and there is no hidden state.
+ *
+ * For mw_read, mw_bounds, mw_verify and mw_search:
+ * - The result is 0, or the number of the refusal, MW_REFUSED_...; the first check that fails gives it.
+ * - All eight numbers of `answer` are written each time, whatever they were. Where the result is 0, answer[0] is 0,
+ *   and the function's own comment names what follows. Where it is a refusal, answer[0] is its detail. All others are 0,
+ *   but for the probes that mw_search tells of two refusals.
+ */
+#ifndef MWELITUNGA_H
+#define MWELITUNGA_H
+
+#include <stddef.h>
+#include <stdint.h>
+
+#ifdef __cplusplus
+extern "C" {
+#endif
+
+/* The largest loop file in bytes, and the most operations that a loop has. */
+#define MW_FILE_MOST 1690
+#define MW_OPERATIONS_MOST 64
+
+/* The rows that mw_search asks for. */
+#define MW_SEARCH_ROWS 4096
+
+/* The refusals, each with its detail. 12, 13, 14, 16, 17, 18 and 19 are those of a session: no function of this header gives them. */
+#define MW_REFUSED_FILE_LENGTH 1      /* fewer than 26 or more than 1690 bytes: the length, 1691 where it is longer than that */
+#define MW_REFUSED_HEAD 2             /* another version than 1: 0; another number of sections than 3: 1 */
+#define MW_REFUSED_SECTION 3          /* an entry with a wrong tag, offset or length: the offset of the entry */
+#define MW_REFUSED_OPERATION 4        /* a latency or a number of uses out of range: the offset of the byte */
+#define MW_REFUSED_USE 5              /* not as many uses as the operations have: where they begin; a slot or duration out of range, slots that do not rise: the offset of the byte */
+#define MW_REFUSED_DEPENDENCE 6       /* an operation number, a delay or a distance out of range: the offset of the byte */
+#define MW_REFUSED_REQUEST 7          /* a cap or an interval out of range: 1; a horizon: 2; a budget: 3 */
+#define MW_REFUSED_CIRCLE 8           /* dependences that lead back to an operation within one iteration, with a delay above 0 in all: no interval is long enough: 0 */
+#define MW_REFUSED_RECURRENCE 9       /* the recurrence bound is above 4096: 0 */
+#define MW_REFUSED_NO_SCHEDULE 10     /* no interval up to the cap has a legal list below the horizon: the cap */
+#define MW_REFUSED_BUDGET 11          /* the search takes more probes than the budget: the interval of the first probe not made */
+#define MW_REFUSED_NO_OPERATION 12    /* there is no such operation: its number */
+#define MW_REFUSED_PLACED 13          /* the operation is placed already: its number */
+#define MW_REFUSED_NOT_PLACED 14      /* the operation is not placed: its number */
+#define MW_REFUSED_START 15           /* a start is too late: the operation; of mw_verify, the first whose start is not below 4096 */
+#define MW_REFUSED_BROKEN 16          /* the start breaks a dependence: the first such dependence */
+#define MW_REFUSED_CONFLICT 17        /* the operation conflicts with itself or with a placed one: 0 */
+#define MW_REFUSED_CHECKPOINTS 18     /* 16 checkpoints are open already: 0 */
+#define MW_REFUSED_NO_CHECKPOINT 19   /* there is no such checkpoint: 0 */
+#define MW_REFUSED_ROOM 20            /* a list that is shorter than the operations, or too few rows: the length that was passed */
+
+/* The verdicts of mw_verify. */
+#define MW_VERDICT_LEGAL 0
+#define MW_VERDICT_BROKEN 1
+#define MW_VERDICT_CONFLICT 2
+
+/* Reads a loop file.
+ *
+ * answer[1], [2], [3]: the numbers of operations, uses and dependences.
+ * Refusals: 1 to 6. */
+size_t mw_read(const uint8_t *file, size_t file_length, uint64_t answer[8]);
+
+/* The two lower bounds of the interval.
+ *
+ * answer[1]: the resource bound, for how many cycles one iteration holds the busiest slot; 1 where no slot is used.
+ * answer[2]: the recurrence bound, the smallest interval of 1 or more at which some starts meet all dependences.
+ * Refusals: 1 to 6, 8, 9. */
+size_t mw_bounds(const uint8_t *file, size_t file_length, uint64_t answer[8]);
+
+/* The verdict on proposed starts: starts[i] is that of operation i. A longer list is fine; what is past the operations is not looked at.
+ *
+ * answer[1]: MW_VERDICT_LEGAL;
+ *   or MW_VERDICT_BROKEN, where a dependence does not hold: the first one's number is answer[2];
+ *   or MW_VERDICT_CONFLICT, where all hold and two operations take one slot in one cycle, counted modulo the interval: the first such
+ *   pair is answer[2], answer[3], twice the same operation where it holds a slot for longer than the interval.
+ * Refusals: 1 to 6; 7, where the interval is not 1 to 4096; 20; 15. */
+size_t mw_verify(
+    const uint8_t *file, size_t file_length, size_t interval, const uint16_t *starts, size_t starts_length,
+    uint64_t answer[8]);
+
+/* The search: the smallest interval up to the cap that has a legal list of starts below the horizon, and of those lists the first
+ * in dictionary order. A probe is one start tried for one operation.
+ *
+ * cap: 1 to 4096. horizon: 1 to 4096. budget: how many probes may be made, 1 to 1000000.
+ * starts: room for one start an operation; MW_OPERATIONS_MOST is enough for every file. rows: scratch, MW_SEARCH_ROWS or more.
+ *
+ * answer[1]: the interval. answer[2], [3]: the resource and the recurrence bound. answer[4]: the number of stages. answer[5]: the probes made.
+ * Refusals: 1 to 6, 7, 20, 8, 9, 10, 11. Of 10 and 11, answer[5] is the probes made; for 11 that is the budget.
+ *
+ * What it leaves: where the result is 0, the starts of the operations stand first in `starts`, and the rest of it is as it was; after any
+ * refusal all of it is as it was. The first MW_SEARCH_ROWS rows are 0 where the result is 0, 10 or 11; later rows, and all rows after
+ * another refusal, are as they were. */
+size_t mw_search(
+    const uint8_t *file, size_t file_length, size_t cap, size_t horizon, size_t budget, uint16_t *starts,
+    size_t starts_length, uint64_t *rows, size_t rows_length, uint64_t answer[8]);
+
+/* The stage of a start: how many whole intervals are over before it. 0 where the interval is 0. */
+size_t mw_stage(size_t interval, size_t start);
+
+/* The cycle of a start: what is left over of those whole intervals. The start itself where the interval is 0. */
+size_t mw_cycle(size_t interval, size_t start);
+
+/* The order of operation `op` in its stage: how many operations of the same stage have a smaller cycle, or the same cycle and a smaller
+ * number. All of the list counts, so pass the number of operations as its length, and not the room that it has. An operation past the list's
+ * end is taken to start at 0. */
+size_t mw_order(size_t interval, const uint16_t *starts, size_t starts_length, size_t op);
+
+#ifdef __cplusplus
+}
+#endif
+
+#endif
