@@ -3,7 +3,7 @@ use mathlib.Core.Path.{_≡_, refl, sym, ap, ap₂, _∙_, fun-ext}
 use mathlib.Core.Bool.{Bool, true, false, _&&_, _||_, or-false, or-true, and-true, and-false}
 use mathlib.Core.List.{List, [], _∷_}
 use mathlib.Core.Logic.{_⊎_, inl, inr}
-use Prim.Native.Nat.{ℕ, zero, suc, _+_, _<_}
+use Prim.Native.Nat.{ℕ, _+_, _<_}
 use native.Mathlib.Nat.{zero-add}
 use native.Mathlib.Decide.{ℕ-discrete}
 use native.Mathlib.Omega.{arith}
@@ -14,7 +14,7 @@ use lib.Seq.{getD-set-same, getD-set-other}
 use Rattle.model.specs.Lists.{upFrom, any}
 use Rattle.model.specs.Loop.{Dep, Loop, size, depAt}
 use Rattle.model.specs.Legality.{Placing, brokenAt, broken, placeAt, touches, breaks}
-use Rattle.model.proofs.Lists.{and-left, upFrom-split, any-append, any-row}
+use Rattle.model.proofs.Lists.{and-left, upFrom-split, getD-filled, any-append, any-row}
 use Rattle.model.proofs.Legality.{place-other}
 use Rattle.reservation.specs.Seats.{seats}
 use Rattle.session.specs.Moves.{hitBy, HitsAre}
@@ -63,17 +63,11 @@ touches-source d o p h m n = rw (other-way (d .dst) p o there n) (or-false (eqb 
 
 -- ---- one dependence after the other
 
--- nothing is marked
-blank-mark : (n p : ℕ) → _≡_ {A = ℕ} (getD (replicate n 0) p 0) 0
-blank-mark zero p = refl
-blank-mark (suc n) zero = refl
-blank-mark (suc n) (suc p) = blank-mark n p
-
 -- at first
 pub mark-begin : (l : Loop) (ii o t : ℕ) (xs hits : List ℕ) → hits ≡ replicate 64 0 → HitsAre l ii o t 0 xs hits
 mark-begin l ii o t xs hits e = record {
   whole = ap length e ∙ length-replicate {A = ℕ} 64 0;
-  at = λ p inside other. ap (λ (ys : List ℕ). eqb (getD ys p 0) 1) e ∙ ap (λ (x : ℕ). eqb x 1) (blank-mark 64 p) ∙ sym (hit-none l ii (seats xs) o t p);
+  at = λ p inside other. ap (λ (ys : List ℕ). eqb (getD ys p 0) 1) e ∙ ap (λ (x : ℕ). eqb x 1) (getD-filled 64 p 0) ∙ sym (hit-none l ii (seats xs) o t p);
 }
 
 module _ {l : Loop} {ii o t k : ℕ} {xs hits : List ℕ} (h : HitsAre l ii o t k xs hits) where

@@ -1,0 +1,46 @@
+-- `head` is safe and ends: its loop counts up, and the measure is the bytes left. Assumes nothing.
+use Prim.Native.Nat.{_-_}
+use borrow.Author.Needs.{needs}
+use Rattle.session_cases.proofs.files.head.Statement.{statement}
+use Rattle.session_cases.proofs.files.head.Tie as tie
+
+abbrev Inv-loop : tie.InvT-loop
+Inv-loop file₀ i₀ file i = Unit
+
+abbrev μ-loop : tie.MeasureT-loop
+μ-loop file₀ i₀ file i = 26 - i
+
+loop-holds : tie.Need-loop-holds Inv-loop μ-loop
+loop-holds c = search needs
+
+array-read-file : tie.Need-array-read-file Inv-loop μ-loop
+array-read-file c = search needs
+
+element-write-file : tie.Need-element-write-file Inv-loop μ-loop
+element-write-file c = search needs
+
+add-i : tie.Need-add-i Inv-loop μ-loop
+add-i c = search needs
+
+loop-less : tie.Need-loop-less Inv-loop μ-loop
+loop-less c = search needs
+
+loop-again : tie.Need-loop-again Inv-loop μ-loop
+loop-again c = search needs
+
+returns : tie.Need-returns Inv-loop μ-loop
+returns c = search needs
+
+pub head-spec : {M : Type 1} → statement M
+head-spec =
+    tie.close
+    (tie.spec
+    Inv-loop
+    μ-loop
+    loop-holds
+    array-read-file
+    element-write-file
+    add-i
+    loop-less
+    loop-again
+    returns)
