@@ -42,7 +42,7 @@ no-breach none q = refl
 no-breach (some e) q = let y : _≡_ {A = ℕ} 0 1 = cc in absurd (omega arith)
 
 -- no answer is a refusal too
-done-kept : {X : Type 0} (r : Reply) (x : Refusal) → answered r ≡ refused x → X
+pub done-kept : {X : Type 0} (r : Reply) (x : Refusal) → answered r ≡ refused x → X
 done-kept r x e = let y : _≡_ {A = ℕ} 0 1 = cc in absurd (omega arith)
 
 module _ {f : List ℕ} {ii h : ℕ} {xs rows : List ℕ} (b : Board f ii h xs rows) where

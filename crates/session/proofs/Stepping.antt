@@ -10,7 +10,7 @@ use native.Mathlib.Omega.{arith}
 use borrow.Author.Tests.{eq-eqb, ne-eqb, le-leb, lt-ltb}
 use lib.ListN.{length, getD, set, take, drop, length-map, length-set, take-append-drop}
 use lib.Seq.{length-take-le, take-suc-set, take-take, getD-take, getD-set-same, getD-set-other}
-use Rattle.model.specs.Refusals.{Refusal, Check, firstRefusal, Answer, answered, refused, settled}
+use Rattle.model.specs.Refusals.{Refusal, Check, firstRefusal, Answer, answered, settled}
 use Rattle.model.specs.Loop.{size}
 use Rattle.model.specs.File.{loopOf}
 use Rattle.model.specs.Legality.{Placing}
@@ -31,6 +31,7 @@ use Rattle.session.specs.declared.Reply as declared
 use Rattle.session.specs.declared.Reply.the-variants as reply
 use Rattle.session.proofs.Readings.{seats-are}
 use Rattle.session.proofs.Boards.{few-operations}
+use Rattle.session.proofs.Doing.{done-kept}
 
 -- ---- lists
 
@@ -76,10 +77,6 @@ step-plain u c a cs p q =
         ≡ (mk (stepAs (mk a []) (settled o (effect u c (mk a []))) .0 .starts) cs, stepAs (mk a []) (settled o (effect u c (mk a []))) .1)
     pick none = refl
     pick (some r) = refl
-
--- a call that is done is not refused
-done-same : {X : Type 0} (x : Refusal) → answered model.done ≡ refused x → X
-done-same x w = let y : _≡_ {A = ℕ} 0 1 = cc in absurd (omega arith)
 
 -- the session with other starts
 abbrev pub withStarts : Session → List ℕ → Session
@@ -151,7 +148,7 @@ module _ (s : Session) (rows : List ℕ) (v : Valid s rows) where
               board = v .board;
               kept = λ i l. pick i (eq-or-lt-of-le (before i l));
             };
-        same = λ x w. not-refused x w;
+        same = λ x w. done-kept _ x w;
       }
     where
       read : starts.Starts → Starts
@@ -168,9 +165,6 @@ module _ (s : Session) (rows : List ℕ) (v : Valid s rows) where
       pick : (i : ℕ) → (i ≡ s .marks) ⊎ (i < s .marks) → Sane (loopOf (fileOf s)) (s .interval) (s .horizon) (getD (set (s .saved) (s .marks) (s .starts)) i blank .at)
       pick i (inl e) = rw (e, getD-set-same (s .saved) (s .marks) (s .starts) blank (omega (arith, v .saved-all))) (v .board .sane)
       pick i (inr l) = rw (getD-set-other (s .saved) (s .marks) i (s .starts) blank (λ e. omega arith)) (v .kept i l)
-
-      not-refused : (x : Refusal) → answered (model.numbered (s .marks + 1)) ≡ refused x → (marked ≡ s) × (rows ≡ rows)
-      not-refused x w = let y : _≡_ {A = ℕ} 0 1 = cc in absurd (omega arith)
 
   -- ---- release
 
@@ -206,7 +200,7 @@ module _ (s : Session) (rows : List ℕ) (v : Valid s rows) where
               board = v .board;
               kept = λ i l. v .kept i (omega arith);
             };
-        same = λ x w. done-same x w;
+        same = λ x w. done-kept _ x w;
       }
 
   -- ---- rollback
@@ -252,7 +246,7 @@ module _ (s : Session) (rows : List ℕ) (v : Valid s rows) where
                 board = b;
                 kept = λ i l. v .kept i (omega arith);
               };
-          same = λ x w. done-same x w;
+          same = λ x w. done-kept _ x w;
         }
       where
         there-is : getD (stateOf s .checkpoints) (m - 1) [] ≡ startsOf (size (loopOf (fileOf s))) (wanted .at)

@@ -2,6 +2,7 @@
 use mathlib.Core.Path.{_≡_, sym, ap, _∙_}
 use mathlib.Core.Option.{none}
 use Prim.Native.Nat.{ℕ}
+use native.Mathlib.Omega.{arith}
 use borrow.Author.Needs.{needs}
 use lib.ListN.{length, replicate, length-replicate}
 use Rattle.model.specs.Refusals.{firstRefusal}
@@ -9,7 +10,7 @@ use Rattle.model.specs.Session.{openChecks}
 use Rattle.session.specs.Checks.{refusalOf}
 use Rattle.session.specs.View.{blank, closedSession}
 use Rattle.session.specs.declared.Session.{Session}
-use Rattle.session.proofs.Openings.{open-refused, open-short, open-room, open-done}
+use Rattle.session.proofs.Openings.{open-refused, open-short, open-some, open-room, open-done}
 use Rattle.session.proofs.open.Statement.{statement}
 use Rattle.session.proofs.open.Tie as tie
 
@@ -68,7 +69,7 @@ clear-rows-requires : tie.Need-clear-rows-requires
 clear-rows-requires c κs =
     let e = c .before .before .before .before in
     let a = start (e .before .before) .args in
-    open-room (a .file .now) (a .interval) (a .horizon) (a .rows .now) (fine e)
+    omega (arith, open-room (a .file .now) (a .interval) (a .horizon) (a .rows .now) (fine e), open-some (a .file .now) (a .interval) (a .horizon) (a .rows .now) (fine e))
 
 same-length : tie.Need-same-length
 same-length c = search needs
