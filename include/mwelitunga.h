@@ -1,4 +1,4 @@
-/* The C functions of the Mwelitunga library: loop files read, bounded, scheduled and verified.
+/* The C functions of the Mwelitunga library: loop files read, bounded, scheduled and verified, and sessions replayed.
  *
  * Link target/staticlib/libmwelitunga.a, which `rt staticlib mwelitunga` writes once the library is proved
  * (x86-64 Linux; of the C library it takes memcpy and memset). docs/FORMAT.md describes the loop file.
@@ -7,10 +7,10 @@
  * - Any bytes, numbers and starts may be passed: what is out of range is refused, or has the result that the comment says.
  * - A list is a pointer and the number of elements behind it. No pointer may be null, even where the number is 0:
  *   pass the address of any object of that type.
- * - What is written (answer, starts and rows of mw_search) may not overlap anything else that is passed to the
- *   same call. Nothing is kept after the call, and there is no hidden state.
+ * - What is written (answer; starts and rows of mw_search; rows, replies and starts of mw_session) may not overlap
+ *   anything else that is passed to the same call. Nothing is kept after the call, and there is no hidden state.
  *
- * For mw_read, mw_bounds, mw_verify and mw_search:
+ * For mw_read, mw_bounds, mw_verify, mw_search and mw_session:
  * - The result is 0, or the number of the refusal, MW_REFUSED_...; the first check that fails gives it.
  * - All eight numbers of `answer` are written each time, whatever they were. Where the result is 0, answer[0] is 0,
  *   and the function's own comment names what follows. Where it is a refusal, answer[0] is its detail. All others are 0,
@@ -33,7 +33,7 @@ extern "C" {
 /* The rows that mw_search asks for. */
 #define MW_SEARCH_ROWS 4096
 
-/* The refusals, each with its detail. 12, 13, 14, 16, 17, 18 and 19 are those of a session: no function of this header gives them. */
+/* The refusals, each with its detail. 12, 13, 14, 16, 17, 18 and 19 are the answers of single calls of a session; so is 15 there. */
 #define MW_REFUSED_FILE_LENGTH 1      /* fewer than 26 or more than 1690 bytes: the length, 1691 where it is longer than that */
 #define MW_REFUSED_HEAD 2             /* another version than 1: 0; another number of sections than 3: 1 */
 #define MW_REFUSED_SECTION 3          /* an entry with a wrong tag, offset or length: the offset of the entry */
@@ -48,17 +48,30 @@ extern "C" {
 #define MW_REFUSED_NO_OPERATION 12    /* there is no such operation: its number */
 #define MW_REFUSED_PLACED 13          /* the operation is placed already: its number */
 #define MW_REFUSED_NOT_PLACED 14      /* the operation is not placed: its number */
-#define MW_REFUSED_START 15           /* a start is too late: the operation; of mw_verify, the first whose start is not below 4096 */
+#define MW_REFUSED_START 15           /* a start is not below the horizon: the operation; of mw_verify, the first whose start is not below 4096 */
 #define MW_REFUSED_BROKEN 16          /* the start breaks a dependence: the first such dependence */
 #define MW_REFUSED_CONFLICT 17        /* the operation conflicts with itself or with a placed one: 0 */
 #define MW_REFUSED_CHECKPOINTS 18     /* 16 checkpoints are open already: 0 */
 #define MW_REFUSED_NO_CHECKPOINT 19   /* there is no such checkpoint: 0 */
 #define MW_REFUSED_ROOM 20            /* a list that is shorter than the operations, or too few rows: the length that was passed */
+#define MW_REFUSED_REPLIES 254        /* mw_session: room for fewer than two replies a call: the length that was passed */
+#define MW_REFUSED_CALLS 255          /* mw_session: a call of no kind: its number from 0; numbers left over at the end: the number of whole calls */
 
 /* The verdicts of mw_verify. */
 #define MW_VERDICT_LEGAL 0
 #define MW_VERDICT_BROKEN 1
 #define MW_VERDICT_CONFLICT 2
+
+/* The calls that mw_session makes: each is three numbers, one of these and two more. What is called unused may be any number. */
+#define MW_CALL_PLACE 1               /* operation, start: places the operation */
+#define MW_CALL_FORCE 2               /* operation, start: places it and takes out first what is in its way */
+#define MW_CALL_REMOVE 3              /* operation, unused: takes it out */
+#define MW_CALL_CHECKPOINT 4          /* unused, unused: keeps a copy of all starts */
+#define MW_CALL_RELEASE 5             /* unused, unused: forgets the newest checkpoint */
+#define MW_CALL_ROLLBACK 6            /* checkpoint, unused: goes back to its starts; it stays open, later ones are forgotten */
+
+/* The start that mw_session writes for an operation that is not placed. */
+#define MW_NOT_PLACED 65535
 
 /* Reads a loop file.
  *
@@ -110,6 +123,27 @@ size_t mw_cycle(size_t interval, size_t start);
  * number. All of the list counts, so pass the number of operations as its length, and not the room that it has. An operation past the list's
  * end is taken to start at 0. */
 size_t mw_order(size_t interval, const uint16_t *starts, size_t starts_length, size_t op);
+
+/* A session: a table of `interval` rows in which operations are placed, forced, removed, checkpointed and rolled back, by a list of calls
+ * that are made one after the other on a session opened for them.
+ *
+ * interval: 1 to 4096, also below the bounds. horizon: 1 to 4096; starts stay below it. rows: the table, `interval` rows or more.
+ * calls: three numbers a call, MW_CALL_... and two more; calls_length counts the numbers. replies: room for two numbers a call.
+ *
+ * replies[2 i], replies[2 i + 1]: the answer of call i, from 0. 0 and a value where it was done: for MW_CALL_FORCE the operations that were
+ *   taken out, bit k for operation k; for MW_CALL_CHECKPOINT the number of the new checkpoint, 1 to 16; else 0. Where it was refused, the
+ *   refusal's number and its detail, and the call changed nothing: 12, 13, 15, 16, 17 of placing and forcing; 12, 14 of removing; 18 of
+ *   a checkpoint; 19 of releasing and rolling back.
+ * answer[1]: the number of calls. answer[2]: how many checkpoints are open after the last.
+ * Refusals, before any call is made: 255, 254; 1 to 6; 7, where the interval (1) or the horizon (2) is out of range; 20.
+ *
+ * What it leaves where the result is 0: starts[k] is the start of operation k, MW_NOT_PLACED where it is not placed and for every k that is
+ * no operation's, so all 64 are written. Bit s - 1 of row r, for r below the interval, is 1 exactly where a placed operation covers slot s
+ * in that row; later rows are as they were, and so is `replies` past the last call's. After a refusal rows, replies and starts are
+ * as they were. */
+size_t mw_session(
+    const uint8_t *file, size_t file_length, size_t interval, size_t horizon, const uint64_t *calls, size_t calls_length,
+    uint64_t *rows, size_t rows_length, uint64_t *replies, size_t replies_length, uint16_t starts[64], uint64_t answer[8]);
 
 #ifdef __cplusplus
 }

@@ -1,2 +1,4 @@
 -- Hand-written laws of the crate that belong to no one function.
 pub mod Told
+pub mod Writing
+pub mod Replays

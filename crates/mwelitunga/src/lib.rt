@@ -1,8 +1,11 @@
 // The library that a compiler links: the entry points as C functions over numbers and slices. A slice is a pointer and a length, `answer` a pointer to eight numbers. A function that has
 // an answer returns 0, or the number of the refusal, and writes all eight: first the refusal's detail, 0 where there is none, then what was found, then zeros. None asks for anything.
+mod replay;
+
 use bounds::LowerBounds;
 use loop_file::Reading;
 use search::Searched;
+use session::Checked;
 use verifier::Verdict;
 ghost use mathlib.Core.Path.{_≡_};
 ghost use mathlib.Core.List.{[], _∷_};
@@ -11,6 +14,7 @@ ghost use Rattle.model.specs.Search as model;
 ghost use Rattle.model.specs.Verifier.{verifyFile};
 ghost use Rattle.loop_file.specs.Read.{counted};
 ghost use Rattle.mwelitunga.specs.Words.{written, Gives, countWords, verdictWords, BoundsGiven, SearchGiven};
+ghost use Rattle.mwelitunga.specs.Replay.{Replayed};
 
 // The eight numbers of an answer, the last two 0.
 fn write_answer(answer: &mut [u64; 8], a: usize, b: usize, c: usize, d: usize, e: usize, f: usize)
@@ -153,4 +157,39 @@ pub extern "C" fn mw_order(interval: usize, starts: &[u16], op: usize) -> usize
     ensures { λ r. ⌜ r ≡ model.orderOf interval (now (starts .entry)) op ⌝ }
 {
     search::stages::order(interval, starts, op)
+}
+
+// A session opened for a list of calls, three numbers a call, and all of them made: the number of calls and of the checkpoints then open. The answer of each call, two numbers a
+// call, is in `replies`; what the calls leave is in `starts`, 65,535 where an operation is not placed, and in the table.
+#[no_mangle]
+pub extern "C" fn mw_session(
+    file: &[u8],
+    interval: usize,
+    horizon: usize,
+    calls: &[u64],
+    rows: &mut [u64],
+    replies: &mut [u64],
+    starts: &mut [u16; 64],
+    answer: &mut [u64; 8],
+) -> usize
+    ensures { λ r. ⌜ Replayed (now (file .entry)) interval horizon (now (calls .entry)) (now (rows .entry)) (now (replies .entry)) (now (starts .entry)) (now (answer .entry)) r (now (rows .exit)) (now (replies .exit)) (now (starts .exit)) (now (answer .exit)) ⌝ }
+{
+    let checked = replay::unfit(calls, replies.len());
+    if let Checked::Refused(number, detail) = checked {
+        write_answer(answer, detail, 0, 0, 0, 0, 0);
+        return number;
+    }
+    let opening = session::open(file, interval, horizon, rows);
+    let opened = opening.answer;
+    if let Checked::Refused(number, detail) = opened {
+        write_answer(answer, detail, 0, 0, 0, 0, 0);
+        return number;
+    }
+    let n = calls.len() / 3;
+    let begun = opening.session;
+    let s = replay::run(begun, rows, calls, n, replies);
+    let last = s.starts;
+    replay::write_starts(starts, &last.at);
+    write_answer(answer, 0, n, s.marks, 0, 0, 0);
+    0
 }

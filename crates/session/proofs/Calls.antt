@@ -1,8 +1,8 @@
 -- Every list of calls: demand 3. It rests on `Opened`, `Stepped` and `Run` alone, and not on code. Assumes nothing.
 use mathlib.Core.Path.{_≡_, refl, sym, ap, ap₂, _∙_, subst, subst₃}
-use mathlib.Core.List.{List, _∷_, _++_}
+use mathlib.Core.List.{List, [], _∷_, _++_}
 use mathlib.Core.Option.{Option, none, some}
-use Prim.Native.Nat.{ℕ, _≤_}
+use Prim.Native.Nat.{ℕ, suc, _≤_}
 use native.Mathlib.Omega.{arith}
 use lib.ListN.{length, take, drop, length-map}
 use lib.Seq.{length-take-le, take-at, drop-at}
@@ -44,7 +44,7 @@ module _ {u : Setup} {st : State} {rest : List ℕ} {s : Session} {rows : List �
   stands-drop = ap (drop (u .ii)) (a .rows-are) ∙ drop-at (stateTable u st) rest (u .ii) (length-table 2 (u .ii) _)
 
   -- as many checkpoints are open as it counts
-  stands-marks : s .marks ≡ length (st .checkpoints)
+  pub stands-marks : s .marks ≡ length (st .checkpoints)
   stands-marks =
       sym (length-take-le (s .marks) (s .saved) (omega (arith, a .valid .few, a .valid .saved-all)))
       ∙ sym (length-map (take (s .marks) (s .saved)) _) ∙ ap (λ (x : State). length (x .checkpoints)) (a .state)
@@ -79,6 +79,19 @@ ran a (next t r) =
     let b = step-stands a t in
     let d = ran (b .1) r in
     (ap₂ (λ (x : Answer model.Reply) (xs : List (Answer model.Reply)). x ∷ xs) (b .0) (d .0), d .1)
+
+-- ---- a list of calls, one by one
+
+-- one call more
+pub run-then : {c : Call} {cs : List Call} {rs : List (Answer model.Reply)} {s s′ s″ : Session} {rows rows′ rows″ : List ℕ} {r : Reply}
+    → Run s rows cs rs s′ rows′ → Stepped c s′ rows′ s″ rows″ r → Run s rows (cs ++ (c ∷ [])) (rs ++ (replyOf r ∷ [])) s″ rows″
+run-then stop t = next t stop
+run-then (next u run) t = next u (run-then run t)
+
+-- an answer for each call
+pub run-count : {cs : List Call} {rs : List (Answer model.Reply)} {s s′ : Session} {rows rows′ : List ℕ} → Run s rows cs rs s′ rows′ → length rs ≡ length cs
+run-count stop = refl
+run-count (next t run) = ap suc (run-count run)
 
 -- ---- opening
 

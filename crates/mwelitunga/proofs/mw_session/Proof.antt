@@ -1,0 +1,122 @@
+-- `mw_session` meets its contract: refused for the calls, refused by opening, or all calls made. Assumes nothing.
+use mathlib.Core.Path.{_≡_, sym, ap, _∙_}
+use mathlib.Core.Option.{none}
+use native.Mathlib.Omega.{arith}
+use borrow.Author.Needs.{needs}
+use lib.ListN.{length}
+use Rattle.model.specs.Refusals.{firstRefusal}
+use Rattle.session.specs.Checks.{refusalOf}
+use Rattle.session.proofs.Calls.{from-open, ran}
+use Rattle.mwelitunga.specs.Replay.{callChecks}
+use Rattle.mwelitunga.proofs.Replays.{fit-room, opened-is, calls-refused, opening-refused, all-made}
+use Rattle.mwelitunga.proofs.mw_session.Statement.{statement}
+use Rattle.mwelitunga.proofs.mw_session.Tie as tie
+
+unfit-requires : tie.Need-unfit-requires
+unfit-requires c κs = search needs
+
+enum-known-checked : tie.Need-enum-known-checked
+enum-known-checked c = search needs
+
+write-answer-requires : tie.Need-write-answer-requires
+write-answer-requires c κs = search needs
+
+-- the function's entry, as its calls see it
+abbrev start : tie.After-unfit → tie.Start
+start c = c .before .before .before .before .before
+
+returns : tie.Need-returns
+returns c =
+    let k = c .before .before .before in
+    let u = k .before .before in
+    let a = start u .args in
+    calls-refused (a .file .now) (a .interval) (a .horizon) (a .calls .now) (a .rows .now) (a .replies .now) (a .starts .now) (a .answer .now) _ _ _
+    (sym (u .unfit .ensures) ∙ ap refusalOf (k .checked .given .1)) (c .write-answer .ensures)
+
+enum-told : tie.Need-enum-told
+enum-told c = search needs
+
+open-requires : tie.Need-open-requires
+open-requires c κs = search needs
+
+enum-known-opened : tie.Need-enum-known-opened
+enum-known-opened c = search needs
+
+write-answer-requires-2 : tie.Need-write-answer-requires-2
+write-answer-requires-2 c κs = search needs
+
+-- nothing is against the calls
+fine : (c : tie.After-enum-told) → let a = start (c .before .before) .args in firstRefusal (callChecks (a .calls .now) (length (a .replies .now))) ≡ none
+fine c = sym (c .before .before .unfit .ensures) ∙ ap refusalOf (c .enum-told .given .1)
+
+same-length : tie.Need-same-length
+same-length c = search needs
+
+returns-2 : tie.Need-returns-2
+returns-2 c =
+    let k = c .before .before .before in
+    let o = k .before .before .before .before in
+    let e = o .before .before in
+    let a = start (e .before .before) .args in
+    opening-refused (a .file .now) (a .interval) (a .horizon) (a .calls .now) (a .rows .now) (a .replies .now) (a .starts .now) (a .answer .now) _ (fine e)
+    (opened-is (o .«open» .ensures) (k .opened .given .1)) (c .write-answer2 .ensures)
+
+enum-told-2 : tie.Need-enum-told-2
+enum-told-2 c = search needs
+
+run-requires : tie.Need-run-requires
+run-requires c κs =
+    let t = c .before .before .before in
+    let o = t .before .before .before .before in
+    let e = o .before .before in
+    let a = start (e .before .before) .args in
+    (from-open (opened-is (o .«open» .ensures) (t .enum-told2 .given .1)) .valid, omega arith, fit-room (a .calls .now) (length (a .replies .now)) (fine e))
+
+write-starts-requires : tie.Need-write-starts-requires
+write-starts-requires c κs =
+    let r = c .before .before .before .before .before .before .before .before in
+    let t = r .before .before .before .before in
+    let o = t .before .before .before .before in
+    ran (from-open (opened-is (o .«open» .ensures) (t .enum-told2 .given .1))) (r .run .ensures .run) .1 .valid .board .sane .whole
+
+write-answer-requires-3 : tie.Need-write-answer-requires-3
+write-answer-requires-3 c κs = search needs
+
+same-length-2 : tie.Need-same-length-2
+same-length-2 c = search needs
+
+same-length-3 : tie.Need-same-length-3
+same-length-3 c = search needs
+
+returns-3 : tie.Need-returns-3
+returns-3 c =
+    let w = c .before .before in
+    let r = w .before .before .before .before .before .before .before .before .before in
+    let t = r .before .before .before .before in
+    let o = t .before .before .before .before in
+    let e = o .before .before in
+    let a = start (e .before .before) .args in
+    all-made (a .file .now) (a .interval) (a .horizon) (a .calls .now) (a .rows .now) (a .replies .now) (a .starts .now) (a .answer .now) _ (fine e)
+    (opened-is (o .«open» .ensures) (t .enum-told2 .given .1)) (r .run .ensures) (w .write-starts .ensures) (c .write-answer3 .ensures)
+
+pub mw-session-spec : {M : Type 1} → statement M
+mw-session-spec =
+    tie.close
+    (tie.spec
+    unfit-requires
+    enum-known-checked
+    write-answer-requires
+    returns
+    enum-told
+    open-requires
+    enum-known-opened
+    write-answer-requires-2
+    same-length
+    returns-2
+    enum-told-2
+    run-requires
+    write-starts-requires
+    write-answer-requires-3
+    same-length-2
+    same-length-3
+    returns-3)
