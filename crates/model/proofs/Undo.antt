@@ -1,7 +1,7 @@
 -- Laws of lists of calls: what checkpoints keep, and the placed operations placed again in any order. Assumes nothing.
-use mathlib.Core.Path.{_≡_, refl, sym, ap, _∙_, fun-ext}
+use mathlib.Core.Path.{_≡_, refl, sym, ap, _∙_, subst, fun-ext}
 use mathlib.Core.Bool.{Bool, true, false, cond, _||_}
-use mathlib.Core.List.{List, [], _∷_, flatMap}
+use mathlib.Core.List.{List, [], _∷_, _++_, flatMap}
 use mathlib.Core.Option.{Option, none, some}
 use Prim.Native.Nat.{ℕ, _+_, _-_, _≤_, _<_}
 use native.Mathlib.Decide.{ℕ-discrete, decLt}
@@ -103,6 +103,24 @@ back-pure u m cs st e h high =
     ap (λ (x : State × Answer Reply). x .0) (rollback-done u (after u cs then) m low high)
     ∙ keeps-after u m low cs then then (λ l. rw (w .0) (back-newest m st (w .1))) high
     ∙ marked-none u m cs then then h
+
+-- calls in two parts
+after-parts : (u : Setup) (cs ds : List Call) (st : State) → after u (cs ++ ds) st ≡ after u ds (after u cs st)
+unfolding after
+after-parts u [] ds st = refl
+after-parts u (c ∷ cs) ds st = after-parts u cs ds (step u c st .0)
+
+-- so the whole list, up to the rolling back, leaves the state that the list up to the checkpoint call leaves
+pub back-whole : (u : Setup) (m : ℕ) (cs ds : List Call) (st : State) → let then : State = after u (cs ++ (checkpoint ∷ [])) st in
+    step u checkpoint (after u cs st) .1 ≡ answered (numbered m) → NoneGives m (replies u ds then) → m ≤ length (after u ds then .checkpoints)
+    → after u (cs ++ (checkpoint ∷ []) ++ (ds ++ (rollback m ∷ []))) st ≡ then
+unfolding after
+back-whole u m cs ds st e h high =
+    let then : State = step u checkpoint (after u cs st) .0 in
+    let same : after u (cs ++ (checkpoint ∷ [])) st ≡ then = after-parts u cs (checkpoint ∷ []) st in
+    after-parts u (cs ++ (checkpoint ∷ [])) (ds ++ (rollback m ∷ [])) st ∙ ap (after u (ds ++ (rollback m ∷ []))) same ∙ after-parts u ds (rollback m ∷ []) then
+    ∙ back-pure u m ds (after u cs st) e (subst (λ (x : State). NoneGives m (replies u ds x)) same h) (subst (λ (x : State). m ≤ length (after u ds x .checkpoints)) same high)
+    ∙ sym same
 
 -- ---- a session just opened
 

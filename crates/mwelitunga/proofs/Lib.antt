@@ -2,3 +2,4 @@
 pub mod Told
 pub mod Writing
 pub mod Replays
+pub mod Promises

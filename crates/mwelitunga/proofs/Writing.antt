@@ -1,14 +1,15 @@
 -- Numbers written one after the other into a list, and answers and starts as numbers. Assumes nothing.
-use mathlib.Core.Path.{_≡_, refl, sym, ap, _∙_}
+use mathlib.Core.Path.{_≡_, refl, sym, ap, ap₂, _∙_}
 use mathlib.Core.Bool.{Bool, true, false, cond}
 use mathlib.Core.List.{List, [], _∷_, _++_, map, flatMap, append-nil, append-assoc}
 use mathlib.Core.Option.{none, some}
 use Prim.Native.Nat.{ℕ, suc, _+_, _*_, _≤_, _<_}
+use native.Mathlib.Nat.{suc-ne-zero}
 use native.Mathlib.Omega.{arith}
 use borrow.Author.Tests.{eqb-true}
 use lib.Dec.{eqb}
 use lib.ListN.{length, getD, set, drop, length-set, length-append, drop-of-length-le}
-use lib.Seq.{drop-cons, ext-getD}
+use lib.Seq.{drop-cons, set-at, ext-getD, append-snoc}
 use Rattle.model.specs.Lists.{upFrom}
 use Rattle.model.specs.Refusals.{Answer, answered, refused}
 use Rattle.model.specs.Loop.{size}
@@ -51,6 +52,19 @@ written-rest i ws old l =
 pub written-end : (i : ℕ) (ws old : List ℕ) → length ws ≤ i → written i (drop i ws) old ≡ old
 unfolding written
 written-end i ws old l = ap (λ (r : List ℕ). written i r old) (drop-of-length-le ws l)
+
+-- as many as there are places: then they are the list
+pub written-all : (ws old : List ℕ) → length old ≡ length ws → written 0 ws old ≡ ws
+unfolding written
+written-all ws old e = go [] ws old e
+  where
+    go : (p ws old : List ℕ) → length old ≡ length ws → written (length p) ws (p ++ old) ≡ p ++ ws
+    go p [] [] e = refl
+    go p [] (o ∷ os) e = absurd (suc-ne-zero (length os) e)
+    go p (w ∷ ws) [] e = absurd (suc-ne-zero (length ws) (sym e))
+    go p (w ∷ ws) (o ∷ os) e =
+        ap₂ (λ (k : ℕ) (r : List ℕ). written k ws r) (omega (arith, length-append p (w ∷ []))) (set-at p o os w (length p) refl ∙ sym (append-snoc p w os))
+        ∙ go (p ++ (w ∷ [])) ws os (omega (arith, e)) ∙ append-snoc p w ws
 
 -- ---- answers as numbers
 
