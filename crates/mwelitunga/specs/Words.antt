@@ -3,9 +3,9 @@ use mathlib.Core.Path.{_≡_}
 use mathlib.Core.List.{List, [], _∷_}
 use Prim.Native.Nat.{ℕ, suc}
 use lib.ListN.{length, set}
-use Rattle.model.specs.Refusals.{Refusal, Answer, answered, refused}
+use Rattle.model.specs.Refusals.{Answer, answered, refused}
 use Rattle.model.specs.Bounds.{Lower, BoundsIs}
-use Rattle.model.specs.Search.{Request, Schedule, Outcome, found, ended, SearchIs, listAfter, rowsAfter}
+use Rattle.model.specs.Search.{Outcome, found, ended, SearchIs, listAfter, rowsAfter}
 use Rattle.model.specs.Verifier.{Verdict, legal, breach, clash}
 use Rattle.loop_file.specs.Read.{Counts}
 
