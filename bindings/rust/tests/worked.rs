@@ -1,0 +1,298 @@
+//! The worked examples of the rules, by number, and the listings of the example files, through the safe functions.
+
+mod plain;
+
+use mwelitunga::{
+    bounds, read, replay, search, verify, Bounds, Call, Counts, Refusal, Reply, Request, Verdict,
+};
+use plain::file::{write, Dependence, Loop, Operation, Use};
+
+/// An operation: its latency, and its uses by slot and duration.
+type Op<'a> = (u8, &'a [(u8, u8)]);
+
+/// A dependence: from, to, delay, distance.
+type Dep = (usize, usize, i64, i64);
+
+/// The file of a loop.
+fn file(operations: &[Op], dependences: &[Dep]) -> Vec<u8> {
+    let uses = |uses: &[(u8, u8)]| {
+        uses.iter()
+            .map(|&(slot, duration)| Use { slot, duration })
+            .collect()
+    };
+    write(&Loop {
+        operations: operations
+            .iter()
+            .map(|&(latency, list)| Operation {
+                latency,
+                uses: uses(list),
+            })
+            .collect(),
+        dependences: dependences
+            .iter()
+            .map(|&(from, to, delay, distance)| Dependence {
+                from,
+                to,
+                delay,
+                distance,
+            })
+            .collect(),
+    })
+}
+
+fn loop_a() -> Vec<u8> {
+    file(
+        &[(2, &[(1, 1)]), (3, &[(2, 2)]), (1, &[(1, 1)])],
+        &[(0, 1, 2, 0), (1, 2, 3, 0), (1, 1, 3, 1)],
+    )
+}
+
+fn loop_b() -> Vec<u8> {
+    file(
+        &[(1, &[(1, 1)]), (1, &[(1, 1)])],
+        &[(0, 1, 3, 0), (1, 0, -3, 0)],
+    )
+}
+
+fn loop_b2() -> Vec<u8> {
+    file(
+        &[(1, &[(1, 1)]), (1, &[(1, 1)]), (1, &[(3, 3)])],
+        &[(0, 1, 3, 0), (1, 0, -3, 0)],
+    )
+}
+
+fn loop_c() -> Vec<u8> {
+    file(&[(1, &[(1, 1)]), (1, &[(2, 1)])], &[(1, 0, 2, 0)])
+}
+
+/// A loop of operations without uses.
+fn only_dependences(operations: usize, dependences: &[Dep]) -> Vec<u8> {
+    file(&vec![(1, &[][..]); operations], dependences)
+}
+
+/// The request of the worked examples for loop B2.
+fn short(cap: usize, horizon: usize) -> Request {
+    Request {
+        cap,
+        horizon,
+        ..Request::default()
+    }
+}
+
+/// Number, detail and probes of a search that is refused.
+fn refused(file: &[u8], request: Request) -> (usize, u64, Option<usize>) {
+    let error = search(file, request).unwrap_err();
+    (error.refusal.number, error.refusal.detail, error.probes)
+}
+
+fn recurrence(file: &[u8]) -> usize {
+    bounds(file).unwrap().recurrence
+}
+
+#[test]
+fn loop_a_is_the_example_file() {
+    let made = loop_a();
+    assert_eq!(made.len(), 50);
+    assert_eq!(made, example("a.loop"));
+    assert_eq!(loop_b2(), example("b2.loop"));
+    assert_eq!(loop_c(), example("c.loop"));
+    let counts = Counts {
+        operations: 3,
+        uses: 3,
+        dependences: 3,
+    };
+    assert_eq!(read(&made), Ok(counts));
+}
+
+#[test]
+fn case_1_bounds() {
+    let expected = Bounds {
+        resource: 2,
+        recurrence: 3,
+    };
+    assert_eq!(bounds(&loop_a()), Ok(expected));
+}
+
+#[test]
+fn case_2_verdicts() {
+    let file = loop_a();
+    assert_eq!(verify(&file, 3, &[0, 2, 5]), Ok(Verdict::Legal));
+    let broken = Verdict::Broken { dependence: 1 };
+    assert_eq!(verify(&file, 3, &[0, 2, 4]), Ok(broken));
+}
+
+#[test]
+fn case_3_a_longer_interval_may_not_do() {
+    let file = loop_b();
+    assert_eq!(verify(&file, 2, &[0, 3]), Ok(Verdict::Legal));
+    let conflict = Verdict::Conflict {
+        first: 0,
+        second: 1,
+    };
+    assert_eq!(verify(&file, 3, &[0, 3]), Ok(conflict));
+    assert_eq!(verify(&file, 4, &[0, 3]), Ok(Verdict::Legal));
+}
+
+#[test]
+fn case_4_probes_over_two_intervals() {
+    let schedule = search(&loop_b2(), short(4, 8)).unwrap();
+    assert_eq!(schedule.interval, 4);
+    assert_eq!(schedule.starts, [0, 3, 0]);
+    assert_eq!(schedule.probes, 72 + 6);
+}
+
+#[test]
+fn case_5_budgets_and_caps() {
+    let file = loop_b2();
+    let with_budget = |budget| Request {
+        budget,
+        ..short(4, 8)
+    };
+    assert_eq!(search(&file, with_budget(78)).unwrap().probes, 78);
+    assert_eq!(refused(&file, with_budget(77)), (11, 4, Some(77)));
+    assert_eq!(refused(&file, with_budget(72)), (11, 4, Some(72)));
+    assert_eq!(refused(&file, with_budget(71)), (11, 3, Some(71)));
+    assert_eq!(refused(&file, short(3, 8)), (10, 3, Some(72)));
+    assert_eq!(refused(&file, short(2, 8)), (10, 2, Some(0)));
+    let (number, detail, _) = refused(&file, short(4, 3));
+    assert_eq!((number, detail), (10, 4));
+}
+
+#[test]
+fn case_6_an_operation_before_one_of_a_smaller_number() {
+    let schedule = search(&loop_c(), short(4096, 8)).unwrap();
+    assert_eq!(schedule.interval, 1);
+    assert_eq!(schedule.starts, [2, 0]);
+    assert_eq!(schedule.probes, 20);
+}
+
+#[test]
+fn case_7_circles_within_an_iteration() {
+    let circle = only_dependences(2, &[(0, 1, 1, 0), (1, 0, 0, 0)]);
+    let refusal = Refusal {
+        number: 8,
+        detail: 0,
+    };
+    assert_eq!(bounds(&circle), Err(refusal));
+    assert_eq!(refused(&circle, Request::default()), (8, 0, None));
+    let held = only_dependences(2, &[(0, 1, 1, 0), (1, 0, -1, 0)]);
+    assert_eq!(recurrence(&held), 1);
+}
+
+#[test]
+fn case_8_a_dependence_that_asks_for_nothing() {
+    assert_eq!(recurrence(&only_dependences(1, &[(0, 0, 0, 0)])), 1);
+}
+
+#[test]
+fn case_9_quotients_are_rounded_up() {
+    for (delay, bound) in [(7, 4), (8, 4), (9, 5)] {
+        let alone = only_dependences(1, &[(0, 0, delay, 2)]);
+        assert_eq!(recurrence(&alone), bound);
+        let in_two_steps = only_dependences(2, &[(0, 1, delay - 3, 1), (1, 0, 3, 1)]);
+        assert_eq!(recurrence(&in_two_steps), bound);
+    }
+}
+
+#[test]
+fn case_10_an_operation_longer_than_the_interval() {
+    let file = file(&[(1, &[(1, 4)])], &[]);
+    let conflict = Verdict::Conflict {
+        first: 0,
+        second: 0,
+    };
+    assert_eq!(verify(&file, 3, &[0]), Ok(conflict));
+    assert_eq!(verify(&file, 4, &[0]), Ok(Verdict::Legal));
+}
+
+#[test]
+fn case_11_rows_of_a_session() {
+    let mut calls = vec![
+        Call::Place { op: 0, start: 0 },
+        Call::Place { op: 1, start: 2 },
+    ];
+    let placed = replay(&loop_a(), 3, 256, &calls).unwrap();
+    assert_eq!(placed.replies, [Ok(Reply::Done); 2]);
+    assert_eq!(placed.starts, [Some(0), Some(2), None]);
+    assert_eq!(placed.rows, [3, 0, 2]);
+    calls.push(Call::Remove { op: 0 });
+    let removed = replay(&loop_a(), 3, 256, &calls).unwrap();
+    assert_eq!(removed.replies, [Ok(Reply::Done); 3]);
+    assert_eq!(removed.starts, [None, Some(2), None]);
+    assert_eq!(removed.rows, [2, 0, 2]);
+}
+
+#[test]
+fn case_12_force_and_rollback() {
+    let mut calls = vec![
+        Call::Place { op: 0, start: 0 },
+        Call::Checkpoint,
+        Call::Force { op: 2, start: 3 },
+    ];
+    let forced = replay(&loop_a(), 3, 256, &calls).unwrap();
+    let replies = [
+        Ok(Reply::Done),
+        Ok(Reply::Checkpoint(1)),
+        Ok(Reply::Displaced(1)),
+    ];
+    assert_eq!(forced.replies, replies);
+    assert_eq!(forced.starts, [None, None, Some(3)]);
+    assert_eq!(forced.rows[0], 1);
+    calls.push(Call::Rollback { checkpoint: 1 });
+    let back = replay(&loop_a(), 3, 256, &calls).unwrap();
+    assert_eq!(back.replies[3], Ok(Reply::Done));
+    assert_eq!(back.starts, [Some(0), None, None]);
+    assert_eq!(back.rows, [1, 0, 0]);
+    assert_eq!(back.checkpoints, 1);
+}
+
+#[test]
+fn case_13_the_largest_recurrence_bound() {
+    let ring: Vec<Dep> = (0..64)
+        .map(|op| (op, (op + 1) % 64, 64, i64::from(op == 63)))
+        .collect();
+    assert_eq!(recurrence(&only_dependences(64, &ring)), 4096);
+}
+
+#[test]
+fn an_empty_file_is_refused() {
+    assert_eq!(refused(&[], Request::default()), (1, 0, None));
+}
+
+/// The bytes of an example file.
+fn example(name: &str) -> Vec<u8> {
+    std::fs::read(examples().join(name)).unwrap()
+}
+
+fn examples() -> std::path::PathBuf {
+    std::path::Path::new(env!("CARGO_MANIFEST_DIR")).join("../../examples")
+}
+
+/// The listing of an example: the last block below its heading.
+fn listing(page: &str, name: &str) -> String {
+    let heading = format!("## `{name}`\n");
+    let (_, below) = page
+        .split_once(&heading)
+        .expect("the example has a heading");
+    let below = below
+        .split("\n## ")
+        .next()
+        .expect("a text has a first part");
+    let block = below.rsplit("```").nth(1).expect("there is a listing");
+    block.trim().to_string()
+}
+
+#[test]
+fn listings_of_the_example_files() {
+    let page = std::fs::read_to_string(examples().join("README.md")).unwrap();
+    let mut number = 0;
+    for entry in std::fs::read_dir(examples()).unwrap() {
+        let name = entry.unwrap().file_name().into_string().unwrap();
+        if name.ends_with(".loop") {
+            let schedule = search(&example(&name), Request::default()).unwrap();
+            assert_eq!(schedule.to_string(), listing(&page, &name), "{name}");
+            number += 1;
+        }
+    }
+    assert!(number >= 7, "{number} example files");
+}
