@@ -1,0 +1,200 @@
+// The library's C functions against plain Rust, in one process and on the same inputs: the benchmark of calls. It prints a
+// line of JSON for each row that is asked for; bench/run makes tables of them.
+//
+//     library TURNS ROW..
+//
+//     search HORIZON FILE             mw_search on a loop that uses up the 1,000,000 probes
+//     bounds FILE                     mw_bounds
+//     session INTERVAL SPREAD FILE    mw_session with 20,000 calls, all starts below SPREAD
+//     open INTERVAL FILE              mw_session with no calls: what opening takes
+//
+//     rustc --edition 2021 -C opt-level=3 -C codegen-units=1 -L target/staticlib bench/library.rs -o target/bench/library
+
+mod calls;
+mod plain;
+mod session;
+mod sides;
+
+use calls::{draw_calls, told, CALLS};
+use sides::*;
+use std::hint::black_box;
+use std::path::Path;
+use std::time::Instant;
+use std::{env, fs, process};
+
+// How often a turn repeats a call that is short.
+const REPEATS: usize = 20;
+
+// What was measured: of each turn the microseconds for one call, of both sides; and what both left.
+struct Measured {
+    rust: Vec<f64>,
+    proved: Vec<f64>,
+    left: Memory,
+}
+
+// Microseconds for one call.
+fn timed(repeats: usize, m: &mut Memory, call: &impl Fn(&mut Memory)) -> f64 {
+    let began = Instant::now();
+    for _ in 0..repeats {
+        call(black_box(&mut *m));
+    }
+    1e6 * began.elapsed().as_secs_f64() / repeats as f64
+}
+
+// Both sides in turn, now the one and now the other first; what they leave has to be the same. The first turn only
+// brings both into the caches, and is not counted.
+fn compare(
+    turns: usize,
+    repeats: usize,
+    calls: usize,
+    rust: impl Fn(&mut Memory),
+    proved: impl Fn(&mut Memory),
+) -> Result<Measured, String> {
+    let mut all = Measured {
+        rust: Vec::new(),
+        proved: Vec::new(),
+        left: Memory::new(calls),
+    };
+    for turn in 0..=turns {
+        all.left = Memory::new(calls);
+        let mut other = Memory::new(calls);
+        let (r, p);
+        if turn % 2 == 0 {
+            r = timed(repeats, &mut all.left, &rust);
+            p = timed(repeats, &mut other, &proved);
+        } else {
+            p = timed(repeats, &mut other, &proved);
+            r = timed(repeats, &mut all.left, &rust);
+        }
+        if all.left != other {
+            return Err("the library and plain Rust differ".to_string());
+        }
+        if turn > 0 {
+            all.rust.push(r);
+            all.proved.push(p);
+        }
+    }
+    Ok(all)
+}
+
+// A row: what was called, how much work one call is, the times, and for a session what became of its calls.
+fn print(call: &str, work: usize, unit: &str, m: &Measured, calls: &[[String; 4]]) {
+    println!(
+        "{{\"call\": {call:?}, \"work\": {work}, \"unit\": {unit:?}, \"rust\": {:?}, \"proved\": {:?}, \"calls\": {calls:?}}}",
+        m.rust, m.proved
+    );
+}
+
+fn search_row(turns: usize, horizon: usize, path: &str) -> Result<(), String> {
+    let (name, file) = read(path)?;
+    let mut tried = Memory::new(0);
+    rust_search(&file, horizon, &mut tried);
+    if tried.result != 11 {
+        return Err(format!("not hard: the search gives {}", tried.result));
+    }
+    let m = compare(
+        turns,
+        1,
+        0,
+        |m| rust_search(black_box(&file), horizon, m),
+        |m| proved_search(black_box(&file), horizon, m),
+    )?;
+    let call = format!("search, horizon {horizon}, loop {name}");
+    print(&call, BUDGET, "probes", &m, &[]);
+    Ok(())
+}
+
+fn bounds_row(turns: usize, path: &str) -> Result<(), String> {
+    let (name, file) = read(path)?;
+    let m = compare(
+        turns,
+        REPEATS,
+        0,
+        |m| rust_bounds(black_box(&file), m),
+        |m| proved_bounds(black_box(&file), m),
+    )?;
+    let [_, resource, recurrence, ..] = m.left.answer;
+    let call = format!("bounds ({resource} and {recurrence}), loop {name}");
+    print(&call, 1, "call", &m, &[]);
+    Ok(())
+}
+
+fn session_row(turns: usize, interval: usize, spread: usize, path: &str) -> Result<(), String> {
+    let (name, file) = read(path)?;
+    let ops = plain::parse(&file).map_or(0, |code| code.ops.len());
+    let calls = draw_calls(ops, spread);
+    let m = compare(
+        turns,
+        1,
+        CALLS,
+        |m| rust_session(black_box(&file), interval, &calls, m),
+        |m| proved_session(black_box(&file), interval, &calls, m),
+    )?;
+    let call = format!("session, interval {interval}, starts below {spread}, loop {name}");
+    print(&call, CALLS, "calls", &m, &told(&calls, &m.left.replies));
+    Ok(())
+}
+
+fn open_row(turns: usize, interval: usize, path: &str) -> Result<(), String> {
+    let (name, file) = read(path)?;
+    let m = compare(
+        turns,
+        REPEATS,
+        0,
+        |m| rust_session(black_box(&file), interval, &[], m),
+        |m| proved_session(black_box(&file), interval, &[], m),
+    )?;
+    let call = format!("session without calls, interval {interval}, loop {name}");
+    print(&call, 1, "opening", &m, &[]);
+    Ok(())
+}
+
+// The name of a loop file, and what is in it.
+fn read(path: &str) -> Result<(String, Vec<u8>), String> {
+    let name = Path::new(path).file_stem().unwrap_or_default();
+    let file = fs::read(path).map_err(|why| why.to_string())?;
+    Ok((name.to_string_lossy().into_owned(), file))
+}
+
+fn number(text: &str) -> Result<usize, String> {
+    text.parse().map_err(|_| format!("{text} is no number"))
+}
+
+fn row(turns: usize, kind: &str, words: &[String]) -> Result<(), String> {
+    match (kind, words) {
+        ("search", [horizon, path]) => search_row(turns, number(horizon)?, path),
+        ("bounds", [path]) => bounds_row(turns, path),
+        ("session", [interval, spread, path]) => {
+            session_row(turns, number(interval)?, number(spread)?, path)
+        }
+        ("open", [interval, path]) => open_row(turns, number(interval)?, path),
+        _ => Err("no such row".to_string()),
+    }
+}
+
+fn rows(words: &[String]) -> Result<(), String> {
+    let [turns, rest @ ..] = words else {
+        return Err("usage: library TURNS ROW..".to_string());
+    };
+    let turns = number(turns)?;
+    let mut rest = rest;
+    while let [kind, more @ ..] = rest {
+        let width = match kind.as_str() {
+            "bounds" => 1,
+            "session" => 3,
+            _ => 2,
+        };
+        let (own, next) = more.split_at(width.min(more.len()));
+        row(turns, kind, own).map_err(|why| format!("{kind} {}: {why}", own.join(" ")))?;
+        rest = next;
+    }
+    Ok(())
+}
+
+fn main() {
+    let words: Vec<String> = env::args().skip(1).collect();
+    if let Err(why) = rows(&words) {
+        eprintln!("library: {why}");
+        process::exit(1);
+    }
+}
