@@ -5,7 +5,7 @@ use mathlib.Core.List.{List, [], _∷_, _++_, map, flatMap}
 use mathlib.Core.Option.{Option, none, some}
 use Prim.Native.Nat.{ℕ, _+_, _*_, _≤_, _<_}
 use native.Mathlib.Omega.{arith}
-use borrow.Author.Tests.{eq-eqb, ne-eqb, lt-ltb, le-ltb, ltb-false}
+use borrow.Author.Tests.{lt-ltb, le-ltb, ltb-false}
 use lib.ListN.{length, getD}
 use Rattle.model.specs.Lists.{upFrom}
 use Rattle.model.specs.Refusals.{Refusal, firstRefusal, Answer, answered, refused, settled}
@@ -24,39 +24,8 @@ use Rattle.session.specs.declared.Checked.{Checked}
 use Rattle.session.specs.declared.Checked.the-variants as checked
 use Rattle.session.proofs.Calls.{stands-marks, run-then, run-count, from-open, ran}
 use Rattle.mwelitunga.specs.Words.{written, numberOf, wordsOf}
-use Rattle.mwelitunga.specs.Replay.{callCount, callOf, callAt, firstCalls, callsOf, kindCheck, callChecks, replayFile, replyWords, allWords, startWords, endWords, repliesLeft, startsLeft, rowsLeft, Replayed, Made}
+use Rattle.mwelitunga.specs.Replay.{callCount, callAt, firstCalls, callsOf, kindCheck, callChecks, replayFile, replyWords, allWords, startWords, endWords, repliesLeft, startsLeft, rowsLeft, Replayed, Made}
 use Rattle.mwelitunga.proofs.Writing.{written-more, words-length, words-then, starts-told}
-
--- ---- the call of each kind
-
-module _ (k a b : ℕ) where
-  pub kind-place : k ≡ 1 → callOf k a b ≡ model.place a b
-  unfolding callOf
-  kind-place e = rw (eq-eqb k 1 e) refl
-
-  module _ (not-place : k ≡ 1 → ⊥) where
-    pub kind-force : k ≡ 2 → callOf k a b ≡ model.force a b
-    unfolding callOf
-    kind-force e = rw (ne-eqb k 1 not-place, eq-eqb k 2 e) refl
-
-    module _ (not-force : k ≡ 2 → ⊥) where
-      pub kind-remove : k ≡ 3 → callOf k a b ≡ model.remove a
-      unfolding callOf
-      kind-remove e = rw (ne-eqb k 1 not-place, ne-eqb k 2 not-force, eq-eqb k 3 e) refl
-
-      module _ (not-remove : k ≡ 3 → ⊥) where
-        pub kind-checkpoint : k ≡ 4 → callOf k a b ≡ model.checkpoint
-        unfolding callOf
-        kind-checkpoint e = rw (ne-eqb k 1 not-place, ne-eqb k 2 not-force, ne-eqb k 3 not-remove, eq-eqb k 4 e) refl
-
-        module _ (not-checkpoint : k ≡ 4 → ⊥) where
-          pub kind-release : k ≡ 5 → callOf k a b ≡ model.release
-          unfolding callOf
-          kind-release e = rw (ne-eqb k 1 not-place, ne-eqb k 2 not-force, ne-eqb k 3 not-remove, ne-eqb k 4 not-checkpoint, eq-eqb k 5 e) refl
-
-          pub kind-rollback : (k ≡ 5 → ⊥) → callOf k a b ≡ model.rollback a
-          unfolding callOf
-          kind-rollback e = rw (ne-eqb k 1 not-place, ne-eqb k 2 not-force, ne-eqb k 3 not-remove, ne-eqb k 4 not-checkpoint, ne-eqb k 5 e) refl
 
 -- ---- whether a call has a kind
 

@@ -1,16 +1,16 @@
 -- A list of session calls as numbers, and what replaying it on a session of its own comes to. Assumes nothing.
 use mathlib.Core.Path.{_≡_}
-use mathlib.Core.Bool.{cond}
 use mathlib.Core.List.{List, [], _∷_, _++_, map, flatMap}
 use mathlib.Core.Option.{Option, none, some}
 use Prim.Native.Nat.{ℕ, _+_, _*_, _/_}
-use lib.Dec.{eqb, ltb}
+use lib.Dec.{ltb}
 use lib.ListN.{length, getD, drop}
 use Rattle.model.specs.Lists.{upFrom}
 use Rattle.model.specs.Refusals.{Check, check, Answer, answered, refused, settle}
 use Rattle.model.specs.Search.{outside}
-use Rattle.model.specs.Session.{Setup, Starts, Call, place, force, remove, checkpoint, release, rollback, Reply, done, displaced, numbered, stateTable, openChecks, start, after, replies}
+use Rattle.model.specs.Session.{Setup, Starts, Call, Reply, done, displaced, numbered, stateTable, openChecks, start, after, replies}
 use Rattle.session.specs.Board.{setupAs}
+use Rattle.session.specs.Parts.{callOf}
 use Rattle.session.specs.Undo.{Run}
 use Rattle.session.specs.declared.Session.{Session}
 use Rattle.mwelitunga.specs.Words.{written, Gives}
@@ -20,11 +20,6 @@ use Rattle.mwelitunga.specs.Words.{written, Gives}
 -- how many calls the numbers make, three a call; what is left over makes none
 abbrev pub callCount : List ℕ → ℕ
 callCount xs = length xs / 3
-
--- the call of a kind, 1 to 6, with two numbers
-unfoldable pub callOf : (kind a b : ℕ) → Call
-callOf k a b =
-    cond (eqb k 1) (place a b) (cond (eqb k 2) (force a b) (cond (eqb k 3) (remove a) (cond (eqb k 4) checkpoint (cond (eqb k 5) release (rollback a)))))
 
 -- call i
 abbrev pub callAt : List ℕ → ℕ → Call

@@ -1,20 +1,20 @@
 // A list of session calls, three numbers a call: kind, a, b. 1 place(operation, start), 2 force(operation, start), 3 remove(operation), 4 checkpoint, 5 release, 6 rollback(checkpoint).
 // Internal: what `mw_session` is made of.
 use session::Checked;
-use session::Outcome;
 use session::Reply;
 use session::Session;
+use session::parts;
 ghost use mathlib.Core.Path.{_≡_};
 ghost use mathlib.Core.List.{[], _∷_, flatMap};
-ghost use Prim.Native.Nat.{_+_, _*_, _≤_};
+ghost use Prim.Native.Nat.{_+_, _*_, _-_, _≤_, _<_};
 ghost use lib.ListN.{length};
 ghost use Rattle.model.specs.Lists.{upFrom};
 ghost use Rattle.model.specs.Refusals.{firstRefusal};
 ghost use Rattle.session.specs.Checks.{refusalOf};
 ghost use Rattle.session.specs.Moves.{replyOf};
-ghost use Rattle.session.specs.View.{Valid, Stepped};
+ghost use Rattle.session.specs.View.{Valid};
 ghost use Rattle.mwelitunga.specs.Words.{written};
-ghost use Rattle.mwelitunga.specs.Replay.{callOf, kindCheck, callChecks, firstCalls, replyWords, Made};
+ghost use Rattle.mwelitunga.specs.Replay.{kindCheck, callChecks, firstCalls, replyWords, Made};
 
 // The first of n calls that has no kind that there is.
 fn kinds(calls: &[u64], n: usize) -> Checked
@@ -53,29 +53,6 @@ pub fn unfit(calls: &[u64], room: usize) -> Checked
     Checked::Fine
 }
 
-// One call.
-fn call(s: Session, rows: &mut [u64], kind: u64, a: usize, b: usize) -> Outcome
-    requires { ⌜ Valid s (now rows) ⌝ }
-    ensures { λ r. ⌜ Stepped (callOf kind a b) s (now (rows .entry)) (r .session) (now (rows .exit)) (r .reply) ⌝ }
-{
-    if kind == 1 {
-        return session::place(s, rows, a, b);
-    }
-    if kind == 2 {
-        return session::force(s, rows, a, b);
-    }
-    if kind == 3 {
-        return session::remove(s, rows, a);
-    }
-    if kind == 4 {
-        return session::checkpoint(s, rows);
-    }
-    if kind == 5 {
-        return session::release(s, rows);
-    }
-    session::rollback(s, rows, a)
-}
-
 // Two numbers, from place i on.
 fn write_two(replies: &mut [u64], i: usize, first: u64, second: u64)
     requires { ⌜ i + 2 ≤ length (now replies) ⌝ }
@@ -98,7 +75,21 @@ fn write_reply(replies: &mut [u64], i: usize, r: Reply)
     }
 }
 
-// The first n calls, one after the other, with their answers.
+// Where the starts of checkpoint m stand, if it is open.
+fn place_of(m: usize, marks: usize) -> usize
+    requires { ⌜ marks ≤ 16 ⌝ }
+    ensures { λ r. ⌜ (r < 16) × (1 ≤ m → m ≤ marks → r ≡ m - 1) ⌝ }
+{
+    if m == 0 {
+        return 0;
+    }
+    if marks < m {
+        return 0;
+    }
+    m - 1
+}
+
+// The first n calls, one after the other, with their answers. The session is changed where it stands.
 pub fn run(s: Session, rows: &mut [u64], calls: &[u64], n: usize, replies: &mut [u64]) -> Session
     requires { ⌜ Valid s (now rows) × (3 * n ≤ length (now calls)) × (2 * n ≤ length (now replies)) ⌝ }
     ensures { λ r. ⌜ Made (firstCalls (now (calls .entry)) n) s (now (rows .entry)) (now (replies .entry)) r (now (rows .exit)) (now (replies .exit)) ⌝ }
@@ -106,13 +97,37 @@ pub fn run(s: Session, rows: &mut [u64], calls: &[u64], n: usize, replies: &mut 
     let mut t = s;
     let mut i = 0;
     while i < n {
+        let to = 2 * i;
         let kind = calls[3 * i];
         let a = calls[3 * i + 1] as usize;
         let b = calls[3 * i + 2] as usize;
-        let o = call(t, rows, kind, a, b);
-        t = o.session;
-        let reply = o.reply;
-        write_reply(replies, 2 * i, reply);
+        let length = t.length;
+        let interval = t.interval;
+        let horizon = t.horizon;
+        let marks = t.marks;
+        let at = place_of(a, marks);
+        let wanted = t.saved[at];
+        let mut starts = t.starts;
+        let turn = parts::make(
+            &t.file,
+            length,
+            interval,
+            horizon,
+            marks,
+            kind,
+            a,
+            b,
+            &wanted.at,
+            &mut starts.at,
+            rows,
+        );
+        if marks < turn.marks {
+            t.saved[marks] = starts;
+        }
+        t.starts = starts;
+        t.marks = turn.marks;
+        let reply = turn.reply;
+        write_reply(replies, to, reply);
         i = i + 1;
     }
     t

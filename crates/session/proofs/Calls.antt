@@ -4,7 +4,7 @@ use mathlib.Core.List.{List, [], _∷_, _++_}
 use mathlib.Core.Option.{Option, none, some}
 use Prim.Native.Nat.{ℕ, suc, _≤_}
 use native.Mathlib.Omega.{arith}
-use lib.ListN.{length, take, drop, length-map}
+use lib.ListN.{length, take, drop, length-map, length-append, length-drop}
 use lib.Seq.{length-take-le, take-at, drop-at}
 use Rattle.model.specs.Refusals.{Refusal, firstRefusal, Answer, answered, settled}
 use Rattle.model.specs.Loop.{size}
@@ -79,6 +79,12 @@ ran a (next t r) =
     let b = step-stands a t in
     let d = ran (b .1) r in
     (ap₂ (λ (x : Answer model.Reply) (xs : List (Answer model.Reply)). x ∷ xs) (b .0) (d .0), d .1)
+
+-- no call changes how many rows there are
+pub stepped-length : {c : Call} {s s′ : Session} {rows rows′ : List ℕ} {r : Reply} → Valid s rows → Stepped c s rows s′ rows′ r → length rows′ ≡ length rows
+stepped-length {s = s} {s′} {rows} v t =
+    let e : length (stateTable (setupOf s) (stateOf s′)) ≡ s .interval = length-table 2 (s .interval) _ in
+    ap length (t .rows-are) ∙ length-append (stateTable (setupOf s) (stateOf s′)) (drop (s .interval) rows) ∙ omega (arith, e, length-drop (s .interval) rows, v .board .held .long)
 
 -- ---- a list of calls, one by one
 

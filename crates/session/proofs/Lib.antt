@@ -9,3 +9,4 @@ pub mod Clearing
 pub mod Stepping
 pub mod Openings
 pub mod Calls
+pub mod Joining

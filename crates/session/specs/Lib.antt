@@ -3,3 +3,4 @@ pub mod Checks
 pub mod Moves
 pub mod View
 pub mod Undo
+pub mod Parts

@@ -3,6 +3,7 @@
 mod board;
 mod checks;
 mod moves;
+pub mod parts;
 
 use reservation::clear::clear_rows;
 ghost use mathlib.Core.Path.{_≡_};

@@ -1,0 +1,233 @@
+-- `parts::make` meets its contract: a law of `Joining` for each return. Assumes nothing.
+use mathlib.Core.Path.{refl}
+use Prim.Native.Nat.{_≤_}
+use native.Mathlib.Omega.{arith}
+use borrow.Author.Needs.{needs}
+use Rattle.model.specs.Session as model
+use Rattle.session.proofs.Boards.{sane-more, board-far}
+use Rattle.session.proofs.Stepping.{stepped-plain, full, none-open, no-mark, not-open, wanted-sane}
+use Rattle.session.proofs.Joining.{kind-place, kind-force, kind-remove, kind-checkpoint, kind-release, kind-rollback, turned-did, turned-same, turned-checkpoint, turned-release, turned-rollback}
+use Rattle.session.specs.View.{blank}
+use Rattle.session.proofs.parts.make.Statement.{statement}
+use Rattle.session.proofs.parts.make.Tie as tie
+
+place-requires : tie.Need-place-requires
+place-requires c κs = let v = c .before .before .before .before .before .pre .valid in (omega (arith, v .stored, v .fits-in), v .board)
+
+told-requires : tie.Need-told-requires
+told-requires c κs = search needs
+
+same-length : tie.Need-same-length
+same-length c = search needs
+
+returns : tie.Need-returns
+returns c =
+    let m = c .before .before .before in
+    let e1 = m .before .before .before in
+    let a = e1 .before .before .before .args in
+    rw (c .told .ensures)
+    (turned-did (a .store .now) (a .length-) (a .interval) (a .horizon) (a .marks) (a .kind) (a .a) (a .b) (a .wanted .now) (a .starts .now) (a .rows .now) (model.place (a .a) (a .b)) (kind-place (a .kind) (a .a) (a .b) (e1 .if1 .taken))
+    (λ v ok. stepped-plain _ _ ok (model.place (a .a) (a .b)) (λ x cs. refl) (λ x cs. refl) (m .place .ensures)))
+
+force-requires : tie.Need-force-requires
+force-requires c κs = let v = c .before .before .before .before .before .before .pre .valid in (omega (arith, v .stored, v .fits-in), v .board)
+
+told-requires-2 : tie.Need-told-requires-2
+told-requires-2 c κs = search needs
+
+same-length-2 : tie.Need-same-length-2
+same-length-2 c = search needs
+
+returns-2 : tie.Need-returns-2
+returns-2 c =
+    let m = c .before .before .before in
+    let e2 = m .before .before .before in
+    let e1 = e2 .before in
+    let a = e1 .before .before .before .args in
+    rw (c .told2 .ensures)
+    (turned-did (a .store .now) (a .length-) (a .interval) (a .horizon) (a .marks) (a .kind) (a .a) (a .b) (a .wanted .now) (a .starts .now) (a .rows .now) (model.force (a .a) (a .b)) (kind-force (a .kind) (a .a) (a .b) (e1 .if1 .left) (e2 .if2 .taken))
+    (λ v ok. stepped-plain _ _ ok (model.force (a .a) (a .b)) (λ x cs. refl) (λ x cs. refl) (m .force .ensures)))
+
+remove-requires : tie.Need-remove-requires
+remove-requires c κs = let v = c .before .before .before .before .before .before .before .pre .valid in (omega (arith, v .stored, v .fits-in), board-far (v .board))
+
+told-requires-3 : tie.Need-told-requires-3
+told-requires-3 c κs = search needs
+
+same-length-3 : tie.Need-same-length-3
+same-length-3 c = search needs
+
+returns-3 : tie.Need-returns-3
+returns-3 c =
+    let m = c .before .before .before in
+    let e3 = m .before .before .before in
+    let e2 = e3 .before in
+    let e1 = e2 .before in
+    let a = e1 .before .before .before .args in
+    rw (c .told3 .ensures)
+    (turned-did (a .store .now) (a .length-) (a .interval) (a .horizon) (a .marks) (a .kind) (a .a) (a .b) (a .wanted .now) (a .starts .now) (a .rows .now) (model.remove (a .a)) (kind-remove (a .kind) (a .a) (a .b) (e1 .if1 .left) (e2 .if2 .left) (e3 .if3 .taken))
+    (λ v ok. stepped-plain _ _ ok (model.remove (a .a)) (λ x cs. refl) (λ x cs. refl) (m .remove .ensures (a .horizon) (ok .board))))
+
+told-requires-4 : tie.Need-told-requires-4
+told-requires-4 c κs = search needs
+
+returns-4 : tie.Need-returns-4
+returns-4 c =
+    let t = c .before in
+    let e4 = t .before in
+    let e3 = e4 .before in
+    let e2 = e3 .before in
+    let e1 = e2 .before in
+    let a = e1 .before .before .before .args in
+    rw (c .told4 .ensures)
+    (turned-same (a .store .now) (a .length-) (a .interval) (a .horizon) (a .marks) (a .kind) (a .a) (a .b) (a .wanted .now) (a .starts .now) (a .rows .now) model.checkpoint (kind-checkpoint (a .kind) (a .a) (a .b) (e1 .if1 .left) (e2 .if2 .left) (e3 .if3 .left) (e4 .if4 .taken)) (λ v ok. full _ _ ok (t .if5 .taken)))
+
+add-told : tie.Need-add-told
+add-told c = search needs
+
+add-t28 : tie.Need-add-t28
+add-t28 c = search needs
+
+told-requires-5 : tie.Need-told-requires-5
+told-requires-5 c κs = search needs
+
+returns-5 : tie.Need-returns-5
+returns-5 c =
+    let t = c .before in
+    let e4 = t .before in
+    let e3 = e4 .before in
+    let e2 = e3 .before in
+    let e1 = e2 .before in
+    let a = e1 .before .before .before .args in
+    rw (c .told5 .ensures) (turned-checkpoint (a .store .now) (a .length-) (a .interval) (a .horizon) (a .marks) (a .kind) (a .a) (a .b) (a .wanted .now) (a .starts .now) (a .rows .now) (kind-checkpoint (a .kind) (a .a) (a .b) (e1 .if1 .left) (e2 .if2 .left) (e3 .if3 .left) (e4 .if4 .taken)) (t .if5 .left))
+
+told-requires-6 : tie.Need-told-requires-6
+told-requires-6 c κs = search needs
+
+returns-6 : tie.Need-returns-6
+returns-6 c =
+    let t = c .before in
+    let e6 = t .before in
+    let e4 = e6 .before in
+    let e3 = e4 .before in
+    let e2 = e3 .before in
+    let e1 = e2 .before in
+    let a = e1 .before .before .before .args in
+    rw (c .told6 .ensures)
+    (turned-same (a .store .now) (a .length-) (a .interval) (a .horizon) (a .marks) (a .kind) (a .a) (a .b) (a .wanted .now) (a .starts .now) (a .rows .now) model.release (kind-release (a .kind) (a .a) (a .b) (e1 .if1 .left) (e2 .if2 .left) (e3 .if3 .left) (e4 .if4 .left) (e6 .if6 .taken)) (λ v ok. none-open _ _ ok (t .if7 .taken)))
+
+sub-told : tie.Need-sub-told
+sub-told c = search needs
+
+told-requires-7 : tie.Need-told-requires-7
+told-requires-7 c κs = search needs
+
+returns-7 : tie.Need-returns-7
+returns-7 c =
+    let t = c .before in
+    let e6 = t .before in
+    let e4 = e6 .before in
+    let e3 = e4 .before in
+    let e2 = e3 .before in
+    let e1 = e2 .before in
+    let a = e1 .before .before .before .args in
+    rw (c .told7 .ensures) (turned-release (a .store .now) (a .length-) (a .interval) (a .horizon) (a .marks) (a .kind) (a .a) (a .b) (a .wanted .now) (a .starts .now) (a .rows .now) (kind-release (a .kind) (a .a) (a .b) (e1 .if1 .left) (e2 .if2 .left) (e3 .if3 .left) (e4 .if4 .left) (e6 .if6 .taken)) (t .if7 .left))
+
+told-requires-8 : tie.Need-told-requires-8
+told-requires-8 c κs = search needs
+
+returns-8 : tie.Need-returns-8
+returns-8 c =
+    let t = c .before in
+    let e6 = t .before in
+    let e4 = e6 .before in
+    let e3 = e4 .before in
+    let e2 = e3 .before in
+    let e1 = e2 .before in
+    let a = e1 .before .before .before .args in
+    rw (c .told8 .ensures)
+    (turned-same (a .store .now) (a .length-) (a .interval) (a .horizon) (a .marks) (a .kind) (a .a) (a .b) (a .wanted .now) (a .starts .now) (a .rows .now) (model.rollback (a .a)) (kind-rollback (a .kind) (a .a) (a .b) (e1 .if1 .left) (e2 .if2 .left) (e3 .if3 .left) (e4 .if4 .left) (e6 .if6 .left)) (λ v ok. no-mark _ _ ok (a .a) (t .if8 .taken)))
+
+told-requires-9 : tie.Need-told-requires-9
+told-requires-9 c κs = search needs
+
+returns-9 : tie.Need-returns-9
+returns-9 c =
+    let t = c .before in
+    let e8 = t .before in
+    let e6 = e8 .before in
+    let e4 = e6 .before in
+    let e3 = e4 .before in
+    let e2 = e3 .before in
+    let e1 = e2 .before in
+    let a = e1 .before .before .before .args in
+    rw (c .told9 .ensures)
+    (turned-same (a .store .now) (a .length-) (a .interval) (a .horizon) (a .marks) (a .kind) (a .a) (a .b) (a .wanted .now) (a .starts .now) (a .rows .now) (model.rollback (a .a)) (kind-rollback (a .kind) (a .a) (a .b) (e1 .if1 .left) (e2 .if2 .left) (e3 .if3 .left) (e4 .if4 .left) (e6 .if6 .left)) (λ v ok. not-open _ _ ok (a .a) (e8 .if8 .left) (t .if9 .taken)))
+
+restore-requires : tie.Need-restore-requires
+restore-requires c κs =
+    let t = c .before .before in
+    let e8 = t .before in
+    let s = e8 .before .before .before .before .before .before .before .before in
+    let v = s .pre .valid in
+    let there : s .args .a ≤ s .args .marks = omega (arith, t .if9 .left) in (
+      omega (arith, v .stored, v .fits-in),
+      board-far (v .board),
+      rw (← s .pre .wanted-is (omega (arith, e8 .if8 .left)) there) (sane-more (v .board .numbers .far) (wanted-sane _ _ v (s .args .a) (e8 .if8 .left) there blank)),
+    )
+
+told-requires-10 : tie.Need-told-requires-10
+told-requires-10 c κs = search needs
+
+same-length-4 : tie.Need-same-length-4
+same-length-4 c = search needs
+
+returns-10 : tie.Need-returns-10
+returns-10 c =
+    let m = c .before .before .before in
+    let t = m .before .before .before in
+    let e8 = t .before in
+    let e6 = e8 .before in
+    let e4 = e6 .before in
+    let e3 = e4 .before in
+    let e2 = e3 .before in
+    let e1 = e2 .before in
+    let a = e1 .before .before .before .args in
+    rw (c .told10 .ensures)
+    (turned-rollback (a .store .now) (a .length-) (a .interval) (a .horizon) (a .marks) (a .kind) (a .a) (a .b) (a .wanted .now) (a .starts .now) (a .rows .now) (kind-rollback (a .kind) (a .a) (a .b) (e1 .if1 .left) (e2 .if2 .left) (e3 .if3 .left) (e4 .if4 .left) (e6 .if6 .left)) (e8 .if8 .left) (omega (arith, t .if9 .left)) (m .restore .ensures))
+
+pub make-spec : {M : Type 1} → statement M
+make-spec =
+    tie.close
+    (tie.spec
+    place-requires
+    told-requires
+    same-length
+    returns
+    force-requires
+    told-requires-2
+    same-length-2
+    returns-2
+    remove-requires
+    told-requires-3
+    same-length-3
+    returns-3
+    told-requires-4
+    returns-4
+    add-told
+    add-t28
+    told-requires-5
+    returns-5
+    told-requires-6
+    returns-6
+    sub-told
+    told-requires-7
+    returns-7
+    told-requires-8
+    returns-8
+    told-requires-9
+    returns-9
+    restore-requires
+    told-requires-10
+    same-length-4
+    returns-10)
