@@ -48,7 +48,7 @@ module _ (k a b : ℕ) where
 
 -- ---- what each call leaves in the parts
 
-module _ (f : List ℕ) (n ii h marks k a b : ℕ) (wanted xs rows : List ℕ) where
+module _ {f : List ℕ} {n ii h marks k a b : ℕ} {wanted xs rows : List ℕ} where
   -- the call c is made and sets none
   turned-plain : (c : model.Call) {xs′ rows′ : List ℕ} {marks′ : ℕ} {r : Reply} → callOf k a b ≡ c → marks′ ≤ marks
       → ((v : List Starts) → Valid (joined f n ii h marks xs v) rows → WantedIs v a marks wanted → Stepped c (joined f n ii h marks xs v) rows (joined f n ii h marks′ xs′ v) rows′ r)
