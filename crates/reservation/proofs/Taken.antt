@@ -1,48 +1,72 @@
 -- The conflict test's two searches: over the uses in one cycle, and over the cycles. Assumes nothing.
-use mathlib.Core.Path.{_≡_, refl, sym, ap, _∙_}
-use mathlib.Core.Bool.{Bool, true, false, cond}
+use mathlib.Core.Path.{_≡_, refl, ap, _∙_}
+use mathlib.Core.Bool.{false, and-false}
 use mathlib.Core.List.{List, [], _∷_}
 use mathlib.Core.Option.{Option, none, some}
-use Prim.Native.Nat.{ℕ, suc, _≤_, _<_}
+use Prim.Native.Nat.{ℕ, zero, suc, _+_, _≤_, _<_, max}
+use native.Mathlib.Decide.{decLt}
 use native.Mathlib.Omega.{arith}
-use lib.ListN.{length, getD}
-use Rattle.model.specs.Lists.{first}
+use lib.Dec.{leb}
+use lib.ListN.{length, getD, take}
+use borrow.Author.Tests.{le-ltb}
+use Rattle.model.specs.Lists.{first, maxOf}
 use Rattle.model.specs.Loop.{Use, noUse}
-use Rattle.reservation.specs.Place.{takenIn, rowAt, takenAt, slotIn, firstTaken, placeOf, placeIs}
+use Rattle.reservation.specs.Place.{takenBy, takenIn, cyclesOf, cycleIs, rowAt, takenAt, firstTaken, placeOf, placeIs}
 use Rattle.reservation.specs.declared.Place.{Place}
 use Rattle.reservation.specs.declared.Place.the-variants.{Free, Taken}
+use Rattle.reservation.specs.declared.test.Cycle.{Cycle}
+use Rattle.reservation.specs.declared.test.Cycle.the-variants as cycle
 use Rattle.model.proofs.Firsts.{grid-not, grid-at}
 
--- a slot is at least 1, so 0 says that no use was found
-slot-none : (p : Use → Bool) (us : List Use) → ((j : ℕ) → j < length us → 1 ≤ getD us j noUse .slot) → slotIn (first p us) ≡ 0 → first p us ≡ none
-unfolding first
-slot-none p [] h e = refl
-slot-none p (u ∷ us) h e = pick (p u) e (slot-none p us (λ j l. h (suc j) (omega arith)))
-  where
-    pick : (b : Bool) → slotIn (cond b (some u) (first p us)) ≡ 0 → (slotIn (first p us) ≡ 0 → first p us ≡ none) → cond b (some u) (first p us) ≡ none
-    pick true q ih = absurd (omega (arith, h 0 (omega arith)))
-    pick false q ih = ih q
+-- a use that is over meets nothing
+pub use-over : (ii row k : ℕ) (u : Use) → u .offset + u .duration ≤ k → takenBy ii row k u ≡ false
+use-over ii row k u h = rw (le-ltb k (u .offset + u .duration) h, and-false (leb (u .offset) k))
+
+-- and so nothing is found in a cycle past those that the uses cover
+cycles-over : (ii row k : ℕ) (us : List Use) → cyclesOf us ≤ k → takenIn ii row k us ≡ none
+unfolding takenIn first maxOf
+cycles-over ii row k [] h = refl
+cycles-over ii row k (u ∷ us) h = rw (use-over ii row k u (omega arith)) (cycles-over ii row k us (omega arith))
+
+-- no use ends after cycle b, so they cover at most b cycles
+pub cycles-most : (us : List Use) (b : ℕ) → ((j : ℕ) → j < length us → getD us j noUse .offset + getD us j noUse .duration ≤ b) → cyclesOf us ≤ b
+unfolding maxOf
+cycles-most [] b h = omega arith
+cycles-most (u ∷ us) b h = omega (arith, h 0 (omega arith), cycles-most us b (λ j l. h (suc j) (omega arith)))
+
+-- the cycles that the uses to j cover, with use j
+pub cycles-more : (us : List Use) (j : ℕ) → j < length us → cyclesOf (take (suc j) us) ≡ max (cyclesOf (take j us)) (getD us j noUse .offset + getD us j noUse .duration)
+unfolding maxOf
+cycles-more [] j l = absurd (omega arith)
+cycles-more (u ∷ us) zero l = omega arith
+cycles-more (u ∷ us) (suc j) l = omega (arith, cycles-more us j (omega arith))
+
+-- ---- what the test of one cycle says
+
+-- it finds nothing: nothing is taken, and the number said is m
+pub cycle-free : (r : Cycle) (n m : ℕ) (o : Option Use) → r ≡ cycleIs o m → r ≡ cycle.Free n → (o ≡ none) × (n ≡ m)
+cycle-free r n m none e q = (refl, cc)
+cycle-free r n m (some u) e q = let z : _≡_ {A = ℕ} 0 1 = cc in absurd (omega arith)
 
 module _ (ii : ℕ) (rows : List ℕ) (s : ℕ) (us : List Use) where
-  -- nothing is found in cycle k where the slot r that is found is 0
-  pub taken-none : (k r : ℕ) → ((j : ℕ) → j < length us → 1 ≤ getD us j noUse .slot) → r ≡ slotIn (takenIn ii (rowAt ii rows s k) k us) → r ≤ 0 → takenIn ii (rowAt ii rows s k) k us ≡ none
-  unfolding takenIn
-  taken-none k r h e z = slot-none (takenAt ii rows s k) us h (omega arith)
-
-  -- nothing is found in any cycle
-  pub place-free : ((k : ℕ) → k < 16 → takenIn ii (rowAt ii rows s k) k us ≡ none) → placeIs (firstTaken ii rows s us) ≡ none
+  -- nothing in those below k, and the uses cover no others
+  pub place-free : (k : ℕ) → ((j : ℕ) → j < k → takenIn ii (rowAt ii rows s j) j us ≡ none) → cyclesOf us ≤ k → placeIs (firstTaken ii rows s us) ≡ none
   unfolding takenIn firstTaken
-  place-free h = ap placeIs (grid-not (takenAt ii rows s) us 16 h)
-
-  -- nothing in those below k, and in k something in slot r
-  pub place-taken : (k r : ℕ) → k < 16 → ((j : ℕ) → j < k → takenIn ii (rowAt ii rows s j) j us ≡ none) → r ≡ slotIn (takenIn ii (rowAt ii rows s k) k us) → 0 < r
-      → placeIs (firstTaken ii rows s us) ≡ some (k, r)
-  unfolding takenIn firstTaken
-  place-taken k r l h e m = pick (first (takenAt ii rows s k) us) refl e
+  place-free k h m = ap placeIs (grid-not (takenAt ii rows s) us 16 (λ j l. pick j (decLt j k)))
     where
-      pick : (o : Option Use) → first (takenAt ii rows s k) us ≡ o → r ≡ slotIn o → placeIs (firstTaken ii rows s us) ≡ some (k, r)
-      pick none q f = absurd (omega arith)
-      pick (some u) q f = ap placeIs (grid-at (takenAt ii rows s) us 16 k u l h q) ∙ ap (λ (x : ℕ). some (k, x)) (sym f)
+      pick : (j : ℕ) → Dec (j < k) → takenIn ii (rowAt ii rows s j) j us ≡ none
+      pick j (yes l) = h j l
+      pick j (no n) = cycles-over ii (rowAt ii rows s j) j us (omega arith)
+
+  -- nothing in those below k, and in k something in slot t
+  pub place-taken : (k t m : ℕ) (r : Cycle) → k < 16 → ((j : ℕ) → j < k → takenIn ii (rowAt ii rows s j) j us ≡ none)
+      → r ≡ cycleIs (takenIn ii (rowAt ii rows s k) k us) m → r ≡ cycle.Taken t → placeIs (firstTaken ii rows s us) ≡ some (k, t)
+  unfolding takenIn firstTaken
+  place-taken k t m r l h e f = pick (first (takenAt ii rows s k) us) refl e
+    where
+      pick : (o : Option Use) → first (takenAt ii rows s k) us ≡ o → r ≡ cycleIs o m → placeIs (firstTaken ii rows s us) ≡ some (k, t)
+      pick none q g = let z : _≡_ {A = ℕ} 0 1 = cc in absurd (omega arith)
+      pick (some u) q g = let v : u .slot ≡ t = cc in ap placeIs (grid-at (takenAt ii rows s) us 16 k u l h q) ∙ ap (λ (x : ℕ). some (k, x)) v
 
 -- ---- what the conflict test says
 

@@ -5,12 +5,14 @@ use mathlib.Core.Option.{Option, none, some}
 use Prim.Native.Nat.{ℕ, _+_, _%_}
 use lib.Dec.{eqb, leb}
 use lib.ListN.{getD}
-use Rattle.model.specs.Lists.{upFrom, first}
+use Rattle.model.specs.Lists.{upFrom, first, maxOf}
 use Rattle.model.specs.Loop.{Use}
 use Rattle.model.specs.Legality.{covers}
 use Rattle.model.specs.Table.{digitOf}
 use Rattle.reservation.specs.declared.Place.{Place}
 use Rattle.reservation.specs.declared.Place.the-variants.{Free, Taken}
+use Rattle.reservation.specs.declared.test.Cycle.{Cycle}
+use Rattle.reservation.specs.declared.test.Cycle.the-variants as cycle
 
 -- use u meets in cycle k, which falls into the row given, a cell that is taken: its bit is set, or the use itself covered it ii cycles before
 abbrev pub takenBy : ℕ → ℕ → ℕ → Use → Bool
@@ -20,6 +22,15 @@ takenBy ii row k u = covers k u && (eqb (digitOf 2 row (u .slot)) 1 || leb (u .o
 unfoldable pub takenIn : ℕ → ℕ → ℕ → List Use → Option Use
 takenIn ii row k us = first (takenBy ii row k) us
 
+-- how many cycles the uses cover: their latest end, 0 where there is none
+abbrev pub cyclesOf : List Use → ℕ
+cyclesOf us = maxOf (λ u. u .offset + u .duration) us
+
+-- what the test of one cycle says: the slot of the first use that does so, or how many cycles m there are
+abbrev pub cycleIs : Option Use → ℕ → Cycle
+cycleIs none m = cycle.Free m
+cycleIs (some u) m = cycle.Taken (u .slot)
+
 -- the row of cycle k of an operation started at s
 abbrev pub rowAt : ℕ → List ℕ → ℕ → ℕ → ℕ
 rowAt ii rows s k = getD rows ((s + k) % ii) 0
@@ -27,11 +38,6 @@ rowAt ii rows s k = getD rows ((s + k) % ii) 0
 -- use u of an operation started at s does so in cycle k
 abbrev pub takenAt : ℕ → List ℕ → ℕ → ℕ → Use → Bool
 takenAt ii rows s k u = takenBy ii (rowAt ii rows s k) k u
-
--- its slot, and 0 where there is none
-abbrev pub slotIn : Option Use → ℕ
-slotIn none = 0
-slotIn (some u) = u .slot
 
 -- the first cycle, of 16, in which some use does, and the first such use
 unfoldable pub firstTaken : ℕ → List ℕ → ℕ → List Use → Option (ℕ × Use)

@@ -6,12 +6,11 @@ use loop_file::access::offset;
 use loop_file::access::slot;
 use loop_file::access::use_count;
 ghost use mathlib.Core.Path.{_≡_};
-ghost use mathlib.Core.Option.{Option};
 ghost use Prim.Native.Nat.{_+_, _<_, _≤_};
 ghost use lib.ListN.{length, getD};
 ghost use Rattle.model.specs.Loop.{noUse, size, opAt, allUses, firstUseOf};
 ghost use Rattle.model.specs.File.{loopOf, Accepted};
-ghost use Rattle.reservation.specs.Place.{takenBy, takenIn, firstTaken, placeOf, placeIs, slotIn};
+ghost use Rattle.reservation.specs.Place.{takenBy, takenIn, cyclesOf, cycleIs, firstTaken, placeOf, placeIs};
 
 // Whether use u of all meets a taken cell in cycle k of its operation, which falls into the row given.
 fn taken(file: &[u8], u: usize, k: usize, interval: usize, row: u64) -> bool
@@ -31,23 +30,36 @@ fn taken(file: &[u8], u: usize, k: usize, interval: usize, row: u64) -> bool
     (row >> (slot(file, u) - 1)) & 1 == 1
 }
 
-// The lowest slot in which the operation meets a taken cell in cycle k, which falls into the row given; 0 where there is none.
-fn taken_in(file: &[u8], op: usize, first: usize, k: usize, interval: usize, row: u64) -> usize
+// What the test of one cycle answers: the lowest slot in which the operation meets a taken cell; or that it meets none, and how many cycles the operation covers.
+enum Cycle {
+    Taken(usize),
+    Free(usize),
+}
+
+// The test of cycle k, which falls into the row given. How many cycles the operation covers, which is the latest end of its uses, is found on the way.
+fn taken_in(file: &[u8], op: usize, first: usize, k: usize, interval: usize, row: u64) -> Cycle
     requires { ⌜ Accepted (now file) × (op < size (loopOf (now file))) × (k < 16) × (interval ≤ 4096) × (first ≡ firstUseOf (loopOf (now file)) op) ⌝ }
-    ensures { λ r. ⌜ r ≡ slotIn (takenIn interval row k (opAt (loopOf (now (file .entry))) op .uses)) ⌝ }
+    ensures { λ r. ⌜ r ≡ cycleIs (takenIn interval row k (opAt (loopOf (now (file .entry))) op .uses)) (cyclesOf (opAt (loopOf (now (file .entry))) op .uses)) ⌝ }
 {
     let n = use_count(file, op);
+    let mut most = 0;
     let mut j = 0;
     while j < n {
-        if taken(file, first + j, k, interval, row) {
-            return slot(file, first + j);
+        let u = first + j;
+        if taken(file, u, k, interval, row) {
+            return Cycle::Taken(slot(file, u));
+        }
+        let end = offset(file, u) + duration(file, u);
+        if most < end {
+            most = end;
         }
         j = j + 1;
     }
-    0
+    Cycle::Free(most)
 }
 
-// The first place in which the operation, started at `start`, meets a taken cell.
+// The first place in which the operation, started at `start`, meets a taken cell. Cycle 0 is always looked at; where it is free, its test says how many cycles there are
+// to look at, mostly few of the 16 that there may be.
 pub fn conflict(
     file: &[u8],
     op: usize,
@@ -59,11 +71,17 @@ pub fn conflict(
     requires { ⌜ Accepted (now file) × (op < size (loopOf (now file))) × (start ≤ 4096) × (1 ≤ interval) × (interval ≤ 4096) × (interval ≤ length (now rows)) × (first ≡ firstUseOf (loopOf (now file)) op) ⌝ }
     ensures { λ r. ⌜ placeOf r ≡ placeIs (firstTaken interval (now (rows .entry)) start (opAt (loopOf (now (file .entry))) op .uses)) ⌝ }
 {
+    let mut most = 1;
     let mut k = 0;
-    while k < 16 {
-        let s = taken_in(file, op, first, k, interval, rows[(start + k) % interval]);
-        if 0 < s {
-            return Place::Taken(k, s);
+    while k < most {
+        let c = taken_in(file, op, first, k, interval, rows[(start + k) % interval]);
+        match c {
+            Cycle::Taken(s) => {
+                return Place::Taken(k, s);
+            }
+            Cycle::Free(m) => {
+                most = m;
+            }
         }
         k = k + 1;
     }

@@ -1,29 +1,27 @@
 -- `test::taken` meets its contract: the use is in range, since the file is accepted. Assumes nothing.
 use mathlib.Core.Path.{_≡_, sym, ap, _∙_}
-use mathlib.Core.Bool.{true, false, or-true, or-false, and-false}
+use mathlib.Core.Bool.{true, false, or-true, or-false}
 use Prim.Native.Nat.{ℕ, _+_, _-_, _/_, _^_, _≤_, _<_}
 use native.Mathlib.Omega.{arith}
 use lib.Bits.{and-mask}
-use lib.Dec.{eqb, leb}
+use lib.Dec.{eqb}
 use lib.ListN.{getD}
 use borrow.Author.Needs.{needs}
-use borrow.Author.Tests.{le-leb, lt-leb, lt-ltb, le-ltb}
+use borrow.Author.Tests.{le-leb, lt-leb, lt-ltb}
 use Rattle.model.specs.Loop.{Use, UseOk, noUse, allUses}
 use Rattle.model.specs.File.{loopOf}
 use Rattle.model.specs.Table.{digitOf}
 use Rattle.model.proofs.File.{accepted-ok}
 use Rattle.reservation.specs.Place.{takenBy}
 use Rattle.model.proofs.Loop.{all-ok}
+use Rattle.reservation.proofs.Taken.{use-over}
 use Rattle.reservation.proofs.test.taken.Statement.{statement}
 use Rattle.reservation.proofs.test.taken.Tie as tie
 
--- the four ways out: the use does not cover the cycle yet, or no longer; it meets itself; or the row's bit says it
+-- the ways out, beside that of a use that is over (`use-over`): the use does not cover the cycle yet; it meets itself; or the row's bit says it
 module _ (ii row k : ℕ) (u : Use) where
   early : k < u .offset → takenBy ii row k u ≡ false
   early h = rw (lt-leb (u .offset) k h)
-
-  late : u .offset + u .duration ≤ k → takenBy ii row k u ≡ false
-  late h = rw (le-ltb k (u .offset + u .duration) h, and-false (leb (u .offset) k))
 
   self : u .offset ≤ k → k < u .offset + u .duration → u .offset + ii ≤ k → takenBy ii row k u ≡ true
   self p q h = rw (le-leb (u .offset) k p, lt-ltb k (u .offset + u .duration) q, le-leb (u .offset + ii) k h) (or-true (eqb (digitOf 2 row (u .slot)) 1))
@@ -58,7 +56,7 @@ returns-2 : tie.Need-returns-2
 returns-2 c =
     let b = c .before in
     let s = start (b .before .before) in
-    sym (late (s .args .interval) (s .args .row) (s .args .k) (use-of s) (omega (arith, b .before .before .offset .ensures, b .duration .ensures)))
+    sym (use-over (s .args .interval) (s .args .row) (s .args .k) (use-of s) (omega (arith, b .before .before .offset .ensures, b .duration .ensures)))
 
 -- past the first two tests the use covers the cycle
 abbrev turn : tie.Else2 → tie.Start
