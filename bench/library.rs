@@ -14,6 +14,9 @@ mod calls;
 mod plain;
 mod session;
 mod sides;
+#[allow(dead_code)] // not every function is measured
+#[path = "../bindings/rust/src/sys.rs"]
+mod sys;
 
 use calls::{draw_calls, told, CALLS};
 use sides::*;

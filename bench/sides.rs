@@ -1,4 +1,4 @@
-// Both sides of a call: the library's C function (include/mwelitunga.h), and plain Rust that does the same. What a call
+// Both sides of a call: the library's C function, as the Rust crate declares it, and plain Rust that does the same. What a call
 // gives back and writes is in a Memory, so that the two can be compared whole.
 //
 // What the header asks of a caller holds in each unsafe block: a pointer is that of a slice or an array, goes with its length
@@ -6,6 +6,7 @@
 
 use crate::plain::{parse, schedule, Refusal, Request, ROWS};
 use crate::session::{replay, Starts};
+use crate::sys::{mw_bounds, mw_search, mw_session};
 
 // The cap and the budget of every search, and the horizon of every session.
 pub const CAP: usize = 4096;
@@ -13,35 +14,7 @@ pub const BUDGET: usize = 1_000_000;
 pub const HORIZON: usize = 4096;
 
 #[link(name = "mwelitunga", kind = "static")]
-extern "C" {
-    fn mw_bounds(file: *const u8, file_length: usize, answer: *mut u64) -> usize;
-    fn mw_search(
-        file: *const u8,
-        file_length: usize,
-        cap: usize,
-        horizon: usize,
-        budget: usize,
-        starts: *mut u16,
-        starts_length: usize,
-        rows: *mut u64,
-        rows_length: usize,
-        answer: *mut u64,
-    ) -> usize;
-    fn mw_session(
-        file: *const u8,
-        file_length: usize,
-        interval: usize,
-        horizon: usize,
-        calls: *const u64,
-        calls_length: usize,
-        rows: *mut u64,
-        rows_length: usize,
-        replies: *mut u64,
-        replies_length: usize,
-        starts: *mut u16,
-        answer: *mut u64,
-    ) -> usize;
-}
+extern "C" {}
 
 #[derive(PartialEq)]
 pub struct Memory {
@@ -82,7 +55,7 @@ pub fn rust_bounds(file: &[u8], m: &mut Memory) {
 }
 
 pub fn proved_bounds(file: &[u8], m: &mut Memory) {
-    m.result = unsafe { mw_bounds(file.as_ptr(), file.len(), m.answer.as_mut_ptr()) };
+    m.result = unsafe { mw_bounds(file.as_ptr(), file.len(), &mut m.answer) };
 }
 
 // Only refusal 11 is told in full, since the benchmark takes no loop that ends in another way.
@@ -111,7 +84,7 @@ pub fn proved_search(file: &[u8], horizon: usize, m: &mut Memory) {
             m.starts.len(),
             m.rows.as_mut_ptr(),
             m.rows.len(),
-            m.answer.as_mut_ptr(),
+            &mut m.answer,
         )
     };
 }
@@ -145,8 +118,8 @@ pub fn proved_session(file: &[u8], interval: usize, calls: &[u64], m: &mut Memor
             m.rows.len(),
             m.replies.as_mut_ptr(),
             m.replies.len(),
-            m.starts.as_mut_ptr(),
-            m.answer.as_mut_ptr(),
+            &mut m.starts,
+            &mut m.answer,
         )
     };
 }

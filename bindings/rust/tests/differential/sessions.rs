@@ -104,6 +104,16 @@ fn safe_replay(calls: &[Call], ended: Ended) -> Replay {
     }
 }
 
+/// The kinds of calls, by their numbers from 1.
+const KINDS: [&str; 6] = [
+    "place",
+    "force",
+    "remove",
+    "checkpoint",
+    "release",
+    "rollback",
+];
+
 /// The counts of whole replays and of single calls.
 struct Tallies {
     replays: Tally,
@@ -115,15 +125,7 @@ impl Tallies {
         self.replays.result("replayed", plain);
         let Ok(ended) = plain else { return };
         for (call, reply) in calls.chunks(3).zip(ended.replies.chunks(2)) {
-            let kind = [
-                "place",
-                "force",
-                "remove",
-                "checkpoint",
-                "release",
-                "rollback",
-            ];
-            let kind = kind[call[0] as usize - 1];
+            let kind = KINDS[call[0] as usize - 1];
             let result = match reply[0] {
                 0 => Ok(reply[1]),
                 number => Err(Refusal {
@@ -227,14 +229,7 @@ fn sessions() {
     let Tallies { replays, calls } = tallies;
     replays.at_least(10_000, "replayed");
     replays.refusals_at_least(100, &[1, 2, 3, 4, 5, 6, 7, 20, 254, 255]);
-    for kind in [
-        "place",
-        "force",
-        "remove",
-        "checkpoint",
-        "release",
-        "rollback",
-    ] {
+    for kind in KINDS {
         calls.at_least(5000, kind);
     }
     calls.at_least(2000, "force that displaces");
