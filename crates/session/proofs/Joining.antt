@@ -55,17 +55,11 @@ module _ {f : List ℕ} {n ii h marks k a b : ℕ} {wanted xs rows : List ℕ} w
       → Turned f n ii h marks k a b wanted xs rows xs′ rows′ marks′ r
   turned-plain c {marks′ = marks′} e l t = record { steps = λ v ok w. rw (e, le-ltb marks marks′ l) (t v ok w) }
 
-  -- starts and rows are changed, and nothing else
+  -- nothing but starts and rows is changed
   pub turned-did : (c : model.Call) {xs′ rows′ : List ℕ} {r : Reply} → callOf k a b ≡ c
       → ((v : List Starts) → Valid (joined f n ii h marks xs v) rows → Stepped c (joined f n ii h marks xs v) rows (joined f n ii h marks xs′ v) rows′ r)
       → Turned f n ii h marks k a b wanted xs rows xs′ rows′ marks r
   turned-did c e t = turned-plain c e (omega arith) (λ v ok w. t v ok)
-
-  -- nothing is changed
-  pub turned-same : (c : model.Call) {r : Reply} → callOf k a b ≡ c
-      → ((v : List Starts) → Valid (joined f n ii h marks xs v) rows → Stepped c (joined f n ii h marks xs v) rows (joined f n ii h marks xs v) rows r)
-      → Turned f n ii h marks k a b wanted xs rows xs rows marks r
-  turned-same c e t = turned-plain c e (omega arith) (λ v ok w. t v ok)
 
   pub turned-checkpoint : callOf k a b ≡ model.checkpoint → marks < 16 → Turned f n ii h marks k a b wanted xs rows xs rows (marks + 1) (reply.Numbered (marks + 1))
   turned-checkpoint e l = record { steps = λ v ok w. rw (e, lt-ltb marks (marks + 1) (omega arith)) (stepped-checkpoint (joined f n ii h marks xs v) rows ok l) }

@@ -11,7 +11,7 @@ use Rattle.session.specs.declared.Starts.{Starts}
 use Rattle.session.specs.declared.Session.{Session}
 use Rattle.session.specs.declared.Reply.{Reply}
 
--- the call of a kind, 1 to 6, with two numbers
+-- the call of a kind, 1 to 6, with two numbers (another number is taken for 6: who lets any number in refuses it before)
 unfoldable pub callOf : (kind a b : ℕ) → Call
 callOf k a b =
     cond (eqb k 1) (place a b) (cond (eqb k 2) (force a b) (cond (eqb k 3) (remove a) (cond (eqb k 4) checkpoint (cond (eqb k 5) release (rollback a)))))

@@ -8,7 +8,7 @@ use Rattle.session.specs.View.{blank}
 use Rattle.session.specs.Parts.{callOf}
 use Rattle.session.proofs.Boards.{sane-more, board-far}
 use Rattle.session.proofs.Stepping.{stepped-plain, full, none-open, no-mark, not-open, wanted-sane}
-use Rattle.session.proofs.Joining.{kind-place, kind-force, kind-remove, kind-checkpoint, kind-release, kind-rollback, turned-did, turned-same, turned-checkpoint, turned-release, turned-rollback}
+use Rattle.session.proofs.Joining.{kind-place, kind-force, kind-remove, kind-checkpoint, kind-release, kind-rollback, turned-did, turned-checkpoint, turned-release, turned-rollback}
 use Rattle.session.proofs.parts.make.Statement.{statement}
 use Rattle.session.proofs.parts.make.Tie as tie
 
@@ -98,7 +98,7 @@ told-requires-4 : tie.Need-told-requires-4
 told-requires-4 c κs = search needs
 
 returns-4 : tie.Need-returns-4
-returns-4 c = let t = c .before in rw (c .told4 .ensures) (turned-same _ (is-checkpoint (t .before)) (λ v ok. full _ _ ok (t .if5 .taken)))
+returns-4 c = let t = c .before in rw (c .told4 .ensures) (turned-did _ (is-checkpoint (t .before)) (λ v ok. full _ _ ok (t .if5 .taken)))
 
 add-told : tie.Need-add-told
 add-told c = search needs
@@ -116,7 +116,7 @@ told-requires-6 : tie.Need-told-requires-6
 told-requires-6 c κs = search needs
 
 returns-6 : tie.Need-returns-6
-returns-6 c = let t = c .before in rw (c .told6 .ensures) (turned-same _ (is-release (t .before)) (λ v ok. none-open _ _ ok (t .if7 .taken)))
+returns-6 c = let t = c .before in rw (c .told6 .ensures) (turned-did _ (is-release (t .before)) (λ v ok. none-open _ _ ok (t .if7 .taken)))
 
 sub-told : tie.Need-sub-told
 sub-told c = search needs
@@ -133,7 +133,7 @@ told-requires-8 : tie.Need-told-requires-8
 told-requires-8 c κs = search needs
 
 returns-8 : tie.Need-returns-8
-returns-8 c = let t = c .before in rw (c .told8 .ensures) (turned-same _ (is-rollback (t .before)) (λ v ok. no-mark _ _ ok _ (t .if8 .taken)))
+returns-8 c = let t = c .before in rw (c .told8 .ensures) (turned-did _ (is-rollback (t .before)) (λ v ok. no-mark _ _ ok _ (t .if8 .taken)))
 
 told-requires-9 : tie.Need-told-requires-9
 told-requires-9 c κs = search needs
@@ -142,7 +142,7 @@ returns-9 : tie.Need-returns-9
 returns-9 c =
     let t = c .before in
     let e = t .before in
-    rw (c .told9 .ensures) (turned-same _ (is-rollback (e .before)) (λ v ok. not-open _ _ ok _ (e .if8 .left) (t .if9 .taken)))
+    rw (c .told9 .ensures) (turned-did _ (is-rollback (e .before)) (λ v ok. not-open _ _ ok _ (e .if8 .left) (t .if9 .taken)))
 
 restore-requires : tie.Need-restore-requires
 restore-requires c κs =
