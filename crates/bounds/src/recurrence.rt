@@ -1,11 +1,11 @@
 // The recurrence bound, by longest paths: path lengths are raised, dependence by dependence, until they meet all of them or show that
 // they never will. Internal: each function asks for an accepted file.
-use loop_file::access::delay;
-use loop_file::access::dep_count;
-use loop_file::access::distance;
-use loop_file::access::op_count;
-use loop_file::access::source;
-use loop_file::access::target;
+use loop_access::delay;
+use loop_access::dep_count;
+use loop_access::distance;
+use loop_access::op_count;
+use loop_access::source;
+use loop_access::target;
 ghost use mathlib.Core.Path.{_≡_};
 ghost use Prim.Native.Nat.{_*_, _<_, _≤_};
 ghost use lib.IntN.{pos, _+ℤ_, _-ℤ_};

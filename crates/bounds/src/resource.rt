@@ -1,7 +1,7 @@
 // The resource bound. Internal: each function asks for an accepted file.
-use loop_file::access::duration;
-use loop_file::access::slot;
-use loop_file::access::use_total;
+use loop_access::duration;
+use loop_access::slot;
+use loop_access::use_total;
 ghost use mathlib.Core.Path.{_≡_};
 ghost use Rattle.model.specs.File.{loopOf, Accepted};
 ghost use Rattle.model.specs.Bounds.{totalOn, resourceBound};

@@ -1,11 +1,9 @@
-// The reader of loop files (document 01): from any bytes to an accepted loop or the first refusal; the three section bodies; and, in
-// `access`, what the layers above read of an accepted file.
-pub mod access;
-mod bytes;
+// The reader of loop files (document 01): from any bytes to an accepted loop or the first refusal; and the three section bodies. What the layers above read of an
+// accepted file is in the crate `loop_access`.
 mod reader;
 
-use crate::bytes::word;
 use crate::reader::Part;
+use loop_access::bytes::word;
 ghost use mathlib.Core.Path.{_≡_};
 ghost use Rattle.model.specs.File.{readFile, operBody, usesBody, depsBody};
 ghost use Rattle.loop_file.specs.Read.{asReading, readingOf, counted};

@@ -1,8 +1,8 @@
 // The parts of the reader, one for each part of the file. Internal: each asks that the bytes it reads are there, and answers
 // a number that the next part needs, or the first refusal that its part of document 01's table gives.
-use crate::bytes::signed;
-use crate::bytes::wide;
-use crate::bytes::word;
+use loop_access::bytes::signed;
+use loop_access::bytes::wide;
+use loop_access::bytes::word;
 ghost use mathlib.Core.Path.{_≡_};
 ghost use mathlib.Core.List.{_++_};
 ghost use mathlib.Core.Option.{none};

@@ -140,7 +140,7 @@ pub extern "C" fn mw_search(
 pub extern "C" fn mw_stage(interval: usize, start: usize) -> usize
     ensures { λ r. ⌜ r ≡ model.stage interval start ⌝ }
 {
-    search::stages::stage(interval, start)
+    stages::stage(interval, start)
 }
 
 // The cycle of a start.
@@ -148,7 +148,7 @@ pub extern "C" fn mw_stage(interval: usize, start: usize) -> usize
 pub extern "C" fn mw_cycle(interval: usize, start: usize) -> usize
     ensures { λ r. ⌜ r ≡ model.cycle interval start ⌝ }
 {
-    search::stages::cycle(interval, start)
+    stages::cycle(interval, start)
 }
 
 // The order of an operation in its stage.
@@ -156,7 +156,7 @@ pub extern "C" fn mw_cycle(interval: usize, start: usize) -> usize
 pub extern "C" fn mw_order(interval: usize, starts: &[u16], op: usize) -> usize
     ensures { λ r. ⌜ r ≡ model.orderOf interval (now (starts .entry)) op ⌝ }
 {
-    search::stages::order(interval, starts, op)
+    stages::order(interval, starts, op)
 }
 
 // A session opened for a list of calls, three numbers a call, and all of them made: the number of calls and of the checkpoints then open. The answer of each call, two numbers a

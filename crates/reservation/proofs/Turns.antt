@@ -8,7 +8,7 @@ use Rattle.model.specs.Loop.{noUse, size, opAt, useAt, allUses, firstUseOf}
 use Rattle.model.specs.File.{loopOf, Accepted}
 use Rattle.model.proofs.File.{layout}
 use Rattle.model.proofs.Loop.{use-among, use-within}
-use Rattle.loop_file.proofs.Records.{use-read}
+use Rattle.loop_access.proofs.Records.{use-read}
 
 -- number u is that of a use, inside the file, and stands for use j of operation o
 pub record UseHere (f : List ℕ) (o j u : ℕ) : Type 0 where

@@ -1,9 +1,9 @@
 // Reserving and releasing the cells of an operation, bit by bit. The number of the operation's first use, `first`, is handed in: it is worked out once for each chosen
 // operation, which is reserved and released at many starts.
-use loop_file::access::duration;
-use loop_file::access::offset;
-use loop_file::access::slot;
-use loop_file::access::use_count;
+use loop_access::duration;
+use loop_access::offset;
+use loop_access::slot;
+use loop_access::use_count;
 ghost use mathlib.Core.Path.{_≡_};
 ghost use Prim.Native.Nat.{_<_, _≤_};
 ghost use lib.ListN.{length};

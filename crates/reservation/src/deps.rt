@@ -1,10 +1,10 @@
 // Dependences of an operation, in signed arithmetic.
 use crate::Broken;
-use loop_file::access::delay;
-use loop_file::access::dep_count;
-use loop_file::access::distance;
-use loop_file::access::source;
-use loop_file::access::target;
+use loop_access::delay;
+use loop_access::dep_count;
+use loop_access::distance;
+use loop_access::source;
+use loop_access::target;
 ghost use mathlib.Core.Path.{_≡_};
 ghost use Prim.Native.Nat.{_<_, _≤_};
 ghost use lib.ListN.{length};

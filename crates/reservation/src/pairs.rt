@@ -1,9 +1,9 @@
 // Two operations at given starts: whether they meet in a cell; and one against itself.
-use loop_file::access::duration;
-use loop_file::access::first_use;
-use loop_file::access::offset;
-use loop_file::access::slot;
-use loop_file::access::use_count;
+use loop_access::duration;
+use loop_access::first_use;
+use loop_access::offset;
+use loop_access::slot;
+use loop_access::use_count;
 ghost use mathlib.Core.Path.{_≡_};
 ghost use Prim.Native.Nat.{_<_, _≤_};
 ghost use lib.ListN.{length, getD};

@@ -1,10 +1,10 @@
 // The conflict test: an operation against the rows and against itself. It keeps no array of rows, and reads the row of a cycle once, for all uses. The number of the
 // operation's first use, `first`, is handed in: it is worked out once for each chosen operation, which is tested at many starts.
 use crate::Place;
-use loop_file::access::duration;
-use loop_file::access::offset;
-use loop_file::access::slot;
-use loop_file::access::use_count;
+use loop_access::duration;
+use loop_access::offset;
+use loop_access::slot;
+use loop_access::use_count;
 ghost use mathlib.Core.Path.{_≡_};
 ghost use Prim.Native.Nat.{_+_, _<_, _≤_};
 ghost use lib.ListN.{length, getD};

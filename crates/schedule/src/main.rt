@@ -6,7 +6,6 @@ use input::Input;
 use loop_file::Reading;
 use search::Searched;
 use search::Solution;
-use search::stages;
 
 // `refused N at D`.
 fn refused(number: usize, detail: usize) {

@@ -17,7 +17,7 @@ use Rattle.model.specs.Bounds.{resourceBound, RecurrenceBound, Lower, LowerIs, 
 use Rattle.model.specs.Search.{answer, notAfter, probes, stageCount, Request, Schedule, Outcome, found, ended, intervals, tryInterval, sweep}
 use Rattle.model.proofs.Lists.{upFrom-split, sum-append}
 use Rattle.bounds.proofs.Needed.{bounds-needed}
-use Rattle.search.proofs.Words.{Below, answer-is, answer-first, answer-none}
+use Rattle.descent.proofs.Words.{Below, answer-is, answer-first, answer-none}
 
 -- ---- words of the statements
 

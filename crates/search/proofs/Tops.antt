@@ -17,13 +17,13 @@ use Rattle.model.specs.Search.{answer, probes, Request, Outcome, ended, tryInte
 use Rattle.model.proofs.File.{accepted-ok}
 use Rattle.model.proofs.Legality.{legal-nil}
 use Rattle.model.proofs.Table.{table-nil, cells-nothing}
-use Rattle.search.specs.Tree.{resOf, run}
-use Rattle.search.specs.Descent.{tell, Wrote, Ready, Done, below}
+use Rattle.descent.specs.Tree.{resOf, run}
+use Rattle.descent.specs.Descent.{tell, Wrote, Ready, Done, below}
 use Rattle.search.specs.Sweep.{Clear, outcomeOf, SweptIs, Ranged}
-use Rattle.search.specs.declared.Found.{Found}
-use Rattle.search.specs.declared.Found.the-variants.{All, Spent, Nothing}
+use Rattle.descent.specs.declared.Found.{Found}
+use Rattle.descent.specs.declared.Found.the-variants.{All, Spent, Nothing}
 use Rattle.search.specs.declared.Swept.the-variants as swept
-use Rattle.search.proofs.Counting.{answer-run}
+use Rattle.descent.proofs.Counting.{answer-run}
 
 -- ---- the intervals that are left
 

@@ -1,24 +1,14 @@
 // The search for a schedule (document 01), and what a schedule says of each operation.
 mod attempt;
-mod descent;
 mod memory;
 mod request;
-pub mod stages;
 mod sweep;
-mod window;
 
 use bounds::LowerBounds;
 use loop_file::Reading;
 use request::Asked;
 ghost use mathlib.Core.Path.{_≡_};
 ghost use Rattle.search.specs.Answer.{asUnread, asRefused, asUnbounded, Searches};
-
-// What a part of the search comes to: every operation has a start, and so much is left of the budget; the budget is spent; there is no list, and so much is left.
-pub enum Found {
-    All(usize),
-    Spent,
-    Nothing(usize),
-}
 
 // What the sweep over the intervals comes to: the interval at which a list is found, and what is left of the budget; none, and what is left; the interval at which the budget is spent.
 pub enum Swept {

@@ -1,7 +1,7 @@
 // The sweep over the intervals. Internal: asks for an accepted file, and for rows of which the first 4,096 are clear.
-use crate::Found;
 use crate::Swept;
-use crate::descent::choose;
+use descent::Found;
+use descent::choose;
 ghost use mathlib.Core.Path.{_≡_};
 ghost use Rattle.search.specs.Sweep.{Clear, SweptIs, Ranged};
 

@@ -1,5 +1,5 @@
 // The starts of the placed operations and the rows that hold them: one operation put in or taken out. Internal: each function asks that the rows are the table of the starts.
-use loop_file::access::first_use;
+use loop_access::first_use;
 use reservation::cells::release;
 use reservation::cells::reserve;
 ghost use mathlib.Core.Path.{_≡_};

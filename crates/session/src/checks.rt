@@ -1,8 +1,8 @@
 // What each call is refused for, in document 01's order. Internal: each function asks for an accepted file, but for that of opening.
 use crate::Checked;
 use loop_file::Reading;
-use loop_file::access::first_use;
-use loop_file::access::op_count;
+use loop_access::first_use;
+use loop_access::op_count;
 use reservation::Broken;
 use reservation::Place;
 use reservation::deps::first_broken;

@@ -1,13 +1,13 @@
 // The walks over starts, dependences and pairs of operations. Internal: each asks for what the entry point has tested.
-use loop_file::access::dep_count;
-use loop_file::access::duration;
-use loop_file::access::first_use;
-use loop_file::access::offset;
-use loop_file::access::op_count;
-use loop_file::access::slot;
-use loop_file::access::source;
-use loop_file::access::target;
-use loop_file::access::use_count;
+use loop_access::dep_count;
+use loop_access::duration;
+use loop_access::first_use;
+use loop_access::offset;
+use loop_access::op_count;
+use loop_access::slot;
+use loop_access::source;
+use loop_access::target;
+use loop_access::use_count;
 use reservation::Broken;
 use reservation::deps::dep_holds;
 use reservation::pairs::covers;

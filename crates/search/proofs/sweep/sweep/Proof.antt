@@ -9,7 +9,7 @@ use Rattle.search.proofs.sweep.sweep.Statement.{statement}
 use Rattle.search.proofs.sweep.sweep.Tie as tie
 use Rattle.search.proofs.sweep.sweep.Reads as reads
 use Rattle.search.proofs.sweep.sweep.Lts as lts
-use Rattle.search.proofs.descent.choose.Reads as choose-reads
+use Rattle.descent.proofs.choose.Reads as choose-reads
 
 abbrev Inv-loop : tie.InvT-loop
 Inv-loop file starts₀ rows₀ n least cap horizon budget left₀ ii₀ starts rows left ii = Pass file starts₀ rows₀ n least cap horizon budget starts rows left ii

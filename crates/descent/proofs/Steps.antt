@@ -1,0 +1,416 @@
+-- What the turns of the search use: one start of one operation, and what is left to do after it. Assumes nothing.
+use mathlib.Core.Path.{_≡_, refl, sym, ap, subst, _∙_, fun-ext}
+use mathlib.Core.Bool.{Bool, true, false, not, _&&_, cond, and-false}
+use mathlib.Core.Logic.{_⊎_, inl, inr}
+use mathlib.Core.List.{List, [], _∷_, _++_, append-nil}
+use mathlib.Core.Option.{Option, none, some}
+use Prim.Native.Nat.{ℕ, suc, _+_, _-_, _≤_, _<_}
+use native.Mathlib.Decide.{ℕ-discrete}
+use native.Mathlib.Numerals.{add-one}
+use native.Mathlib.Omega.{arith}
+use borrow.Author.Tests.{lt-ltb, le-ltb, le-leb, lt-leb}
+use lib.Dec.{leb, ltb}
+use lib.ListN.{length, take, getD, set, length-set}
+use lib.Seq.{append-snoc, take-suc-set, take-take, take-set-le, length-take-le, getD-take, getD-set-same, getD-set-other}
+use Rattle.model.specs.Loop.{Op, Loop, size, opAt, firstUseOf, LoopOk}
+use Rattle.model.specs.File.{loopOf}
+use Rattle.model.specs.Legality.{Placing, placed, legalAt, legal, placeAt, fitsAt}
+use Rattle.model.specs.Table.{cellsOf, IsTable, Digits}
+use Rattle.model.proofs.Lists.{false-not, and-both}
+use Rattle.model.proofs.File.{accepted-ok}
+use Rattle.model.proofs.Placed.{placed-after, placed-snoc}
+use Rattle.model.proofs.Legality.{legal-prefix, legal-place, legal-snoc}
+use Rattle.reservation.specs.Rows.{overUses, withBit, lessBit, UsesIn}
+use Rattle.reservation.specs.Place.{firstTaken}
+use Rattle.reservation.proofs.Placings.{conflicts, legal-digits, fits-tests, fits-conflict, reserve-place, release-uses, free-conflict, conflict-free, reserve-uses, restored}
+use Rattle.descent.specs.Span.{inside, allowed, WindowIs}
+use Rattle.descent.specs.Tree.{under, treeAnswer, treeProbes, Res, broke, all, no-more, rest, run, runO}
+use Rattle.descent.specs.Descent.{tell, Wrote, Ready, Done, below, branch}
+use Rattle.descent.specs.declared.Found.{Found}
+use Rattle.descent.specs.declared.Found.the-variants.{All, Spent, Nothing}
+use Rattle.descent.proofs.Counting.{after, run-leaf, run-unfit, run-step, run-broke, run-end, run-all, run-skip}
+
+-- ---- a start that does not fit
+
+-- what implies something false is false
+not-then : (a b : Bool) → (a ≡ true → b ≡ true) → b ≡ false → a ≡ false
+not-then true b f e = sym (f refl) ∙ e
+not-then false b f e = refl
+
+-- the next operation fits at s exactly where the dependences allow it and it does not conflict
+fits-next : (l : Loop) (ii : ℕ) (xs : List ℕ) (s : ℕ)
+    → fitsAt l ii (placed xs) (length xs) s ≡ (allowed l ii xs (length (l .deps)) s && not (conflicts l ii (placed xs) (length xs) s))
+unfolding allowed
+fits-next l ii xs s = fits-tests l ii (placed xs) (length xs) s
+
+module _ (l : Loop) (ii : ℕ) (xs : List ℕ) (s : ℕ) (in-loop : length xs < size l) where
+  -- where the next operation does not fit at s, no list that goes on with s is legal
+  unfit-below : fitsAt l ii (placed xs) (length xs) s ≡ false → (q : List ℕ) → legal l ii (xs ++ s ∷ q) ≡ false
+  unfit-below e q =
+      ap (legal l ii) (sym (append-snoc xs s q))
+      ∙ not-then (legal l ii ((xs ++ s ∷ []) ++ q)) (legal l ii (xs ++ s ∷ [])) (legal-prefix l ii (xs ++ s ∷ []) q)
+      (legal-snoc l ii xs s in-loop ∙ ap (λ (b : Bool). legal l ii xs && b) e ∙ and-false (legal l ii xs))
+
+  -- nor is one where the dependences do not allow s
+  barred-below : allowed l ii xs (length (l .deps)) s ≡ false → (q : List ℕ) → legal l ii (xs ++ s ∷ q) ≡ false
+  barred-below e = unfit-below (rw (fits-next l ii xs s, e))
+
+module _ (l : Loop) (ii : ℕ) (xs : List ℕ) (h k a b s : ℕ) (w : WindowIs l ii xs h k a b) (m : s < h) where
+  -- a start below the horizon is allowed exactly inside the window
+  window-says : allowed l ii xs k s ≡ inside a b s
+  window-says = ap (λ (c : Bool). c && allowed l ii xs k s) (sym (lt-ltb s h m)) ∙ sym (w s)
+
+  -- from a to b - 1 it is
+  in-window : a ≤ s → s < b → allowed l ii xs k s ≡ true
+  in-window i j = window-says ∙ and-both (leb a s) (ltb s b) (le-leb a s i) (lt-ltb s b j)
+
+  -- elsewhere it is not
+  off-window : (s < a) ⊎ (b ≤ s) → allowed l ii xs k s ≡ false
+  off-window (inl i) = window-says ∙ ap (λ (c : Bool). c && ltb s b) (lt-leb a s i)
+  off-window (inr i) = window-says ∙ ap (λ (c : Bool). leb a s && c) (le-ltb s b i) ∙ and-false (leb a s)
+
+-- ---- what a branch comes to, read off the answer
+
+-- what is left is no more than there was
+spare : (L : List ℕ → Bool) (h m b k : ℕ) → tell (run L h m b) ≡ Nothing k → k ≤ b
+unfolding run
+spare L h m b k = pick (ltb b (treeProbes L h m)) (treeAnswer L h m) (treeProbes L h m)
+  where
+    pick : (c : Bool) (o : Option (List ℕ)) (p : ℕ) → tell (cond c broke (rest o (b - p))) ≡ Nothing k → k ≤ b
+    pick true o p e = let z : _≡_ {A = ℕ} 0 1 = cc in absurd (omega arith)
+    pick false (some a) p e = let z : _≡_ {A = ℕ} 0 1 = cc in absurd (omega arith)
+    pick false none p e = let z : b - p ≡ k = cc in omega arith
+
+module _ (s n : ℕ) (p starts : List ℕ) (f : ℕ → Res) (whole : Res) where
+  -- it finds a list: so does the whole
+  all-then : (out : Res) (l : ℕ) → whole ≡ after s out f → tell out ≡ All l → Wrote n (p ++ s ∷ []) starts out → (All l ≡ tell whole) × Wrote n p starts whole
+  all-then broke l e q w = let z : _≡_ {A = ℕ} 0 1 = cc in absurd (omega arith)
+  all-then (all a k) l e q w = rw e (sym q, w ∙ append-snoc p s a)
+  all-then (no-more k) l e q w = let z : _≡_ {A = ℕ} 0 1 = cc in absurd (omega arith)
+
+  -- it spends the budget: so does the whole
+  spent-then : (out : Res) → whole ≡ after s out f → tell out ≡ Spent → (Spent ≡ tell whole) × Wrote n p starts whole
+  spent-then broke e q = rw e (refl, tt)
+  spent-then (all a k) e q = let z : _≡_ {A = ℕ} 0 1 = cc in absurd (omega arith)
+  spent-then (no-more k) e q = let z : _≡_ {A = ℕ} 0 1 = cc in absurd (omega arith)
+
+  -- it finds none: the later starts come to what the whole comes to
+  none-then : (out : Res) (l : ℕ) → whole ≡ after s out f → tell out ≡ Nothing l → f l ≡ whole
+  none-then broke l e q = let z : _≡_ {A = ℕ} 0 1 = cc in absurd (omega arith)
+  none-then (all a k) l e q = let z : _≡_ {A = ℕ} 0 1 = cc in absurd (omega arith)
+  none-then (no-more k) l e q = let z : k ≡ l = cc in rw (e, z)
+
+-- ---- the turns of `choose`
+
+-- the invariant of its loop: what is left to do comes to what the whole comes to
+pub record Turn (f starts₀ rows₀ : List ℕ) (op n ii h left : ℕ) (starts rows : List ℕ) (purse s : ℕ) : Type 0 where
+  pub rows-same : rows ≡ rows₀
+  pub kept : take op starts ≡ take op starts₀
+  pub same-length : length starts ≡ length starts₀
+  pub within : s ≤ h
+  pub paid : purse ≤ left
+  pub to-come : runO (under (legal (loopOf f) ii) (take op starts₀)) h (n - op - 1) s (h - s) purse ≡ below f starts₀ op n ii h left
+
+-- the three answers of a start that was tried
+pub record Turned (f starts₀ rows₀ : List ℕ) (op n ii h left : ℕ) (later rows : List ℕ) (r : Found) (s : ℕ) : Type 0 where
+  pub same : rows ≡ rows₀
+  pub same-length : length later ≡ length starts₀
+  pub if-all : (k : ℕ) → r ≡ All k → Done (below f starts₀ op n ii h left) n op (take op starts₀) starts₀ later (All k)
+  pub if-spent : r ≡ Spent → Done (below f starts₀ op n ii h left) n op (take op starts₀) starts₀ later Spent
+  pub if-none : (k : ℕ) → r ≡ Nothing k → Turn f starts₀ rows₀ op n ii h left later rows k (s + 1)
+
+-- a turn, of equal lists and an equal purse
+pub same-turn : {f starts₀ rows₀ : List ℕ} {op n ii h left : ℕ} {starts starts' rows rows' : List ℕ} {purse purse' s : ℕ} → starts' ≡ starts → rows' ≡ rows → purse' ≡ purse
+    → Turn f starts₀ rows₀ op n ii h left starts rows purse s → Turn f starts₀ rows₀ op n ii h left starts' rows' purse' s
+same-turn e g k t = rw (e, g, k) t
+
+-- the first op starts are op many
+prefix-length : {f starts rows : List ℕ} {op n ii h : ℕ} → Ready f starts rows op n ii h → length (take op starts) ≡ op
+prefix-length {starts = starts} {op = op} ready = length-take-le op starts (omega (arith, ready .deep, ready .long))
+
+module _ {f starts₀ rows₀ : List ℕ} {op n ii h : ℕ} (ready : Ready f starts₀ rows₀ op n ii h) where
+  -- which lists are legal after the first op starts
+  abbrev L : List ℕ → Bool
+  L = under (legal (loopOf f) ii) (take op starts₀)
+
+  -- the empty one is
+  here : L [] ≡ true
+  here = ap (legal (loopOf f) ii) (append-nil (take op starts₀)) ∙ ready .fine
+
+  -- no operation is left
+  pub leaf : {left : ℕ} → op ≡ n → Done (below f starts₀ op n ii h left) n op (take op starts₀) starts₀ starts₀ (All left)
+  leaf {left} e =
+      let z : n - op ≡ 0 = omega arith in
+      let r : below f starts₀ op n ii h left ≡ all [] left = ap (λ (m : ℕ). run L h m left) z ∙ run-leaf L h left here in
+      record { says = rw r; list = rw r (ap (λ (k : ℕ). take k starts₀) (sym e) ∙ sym (append-nil (take op starts₀))); kept = refl; same-length = refl }
+
+  -- where the loop begins
+  pub begins : {left : ℕ} → op < n → Turn f starts₀ rows₀ op n ii h left starts₀ rows₀ left 0
+  begins {left} l =
+      let z : n - op ≡ suc (n - op - 1) = omega arith in
+      record {
+        rows-same = refl;
+        kept = refl;
+        same-length = refl;
+        within = omega arith;
+        paid = omega arith;
+        to-come =
+            ap (λ (k : ℕ). runO L h (n - op - 1) 0 k left) (omega arith) ∙ sym (run-all L h (n - op - 1) left)
+            ∙ ap (λ (m : ℕ). run L h m left) (sym z);
+      }
+
+  module _ {left : ℕ} {starts rows : List ℕ} {purse s : ℕ} (turn : Turn f starts₀ rows₀ op n ii h left starts rows purse s) where
+    -- where it ends
+    pub ends : h ≤ s → Done (below f starts₀ op n ii h left) n op (take op starts₀) starts₀ starts (Nothing purse)
+    ends l =
+        let z : h - s ≡ 0 = omega (arith, turn .within) in
+        let r : below f starts₀ op n ii h left ≡ no-more purse =
+        sym (turn .to-come) ∙ ap (λ (k : ℕ). runO L h (n - op - 1) s k purse) z ∙ run-end L h (n - op - 1) s purse in
+        record { says = rw r; list = rw r tt; kept = turn .kept; same-length = turn .same-length }
+
+    -- the start s apart from the later ones
+    first-apart : s < h → runO L h (n - op - 1) s (suc (h - suc s)) purse ≡ below f starts₀ op n ii h left
+    first-apart l = let z : suc (h - suc s) ≡ h - s = omega arith in ap (λ (k : ℕ). runO L h (n - op - 1) s k purse) z ∙ turn .to-come
+
+    -- where nothing is left of the budget
+    pub breaks : s < h → purse ≡ 0 → Done (below f starts₀ op n ii h left) n op (take op starts₀) starts₀ starts Spent
+    breaks l e =
+        let r : below f starts₀ op n ii h left ≡ broke =
+        sym (first-apart l) ∙ ap (λ (b : ℕ). runO L h (n - op - 1) s (suc (h - suc s)) b) e ∙ run-broke L h (n - op - 1) s (h - suc s) here in
+        record { says = rw r; list = rw r tt; kept = turn .kept; same-length = turn .same-length }
+
+    -- the search still stands at operation op
+    still : Ready f starts rows op n ii h
+    still = record {
+      accepted = ready .accepted;
+      is-size = ready .is-size;
+      deep = ready .deep;
+      some = ready .some;
+      short = ready .short;
+      near = ready .near;
+      long = omega (arith, ready .long, turn .same-length);
+      early = λ o l. omega (arith, ready .early o l, getD-take op starts o 0 l, getD-take op starts₀ o 0 l, ap (λ (x : List ℕ). getD x o 0) (turn .kept));
+      held = rw (turn .rows-same, turn .kept) (ready .held);
+      fine = ap (legal (loopOf f) ii) (turn .kept) ∙ ready .fine;
+    }
+
+    module _ (from to : ℕ) (w : WindowIs (loopOf f) ii (take op starts₀) h (length (loopOf f .deps)) from to) (o : op < n) (l : s < h) where
+      -- a start inside the window may be tried
+      pub may-try : from ≤ s → s < to → {first : ℕ} → first ≡ firstUseOf (loopOf f) op
+          → Ready f starts rows op n ii h × (op < n) × (s < h) × (allowed (loopOf f) ii (take op starts) (length (loopOf f .deps)) s ≡ true) × (first ≡ firstUseOf (loopOf f) op)
+      may-try i j e =
+          let k = length (loopOf f .deps) in
+          (still, o, l, ap (λ (xs : List ℕ). allowed (loopOf f) ii xs k s) (turn .kept) ∙ in-window (loopOf f) ii (take op starts₀) h k from to s w l i j, e)
+
+      -- one outside it takes its probe
+      pub skips : (purse ≡ 0 → ⊥) → (s < from) ⊎ (to ≤ s) → Turn f starts₀ rows₀ op n ii h left starts rows (purse - 1) (s + 1)
+      skips more i =
+          let in-loop : length (take op starts₀) < size (loopOf f) = omega (arith, prefix-length ready, ready .is-size) in
+          let barred : allowed (loopOf f) ii (take op starts₀) (length (loopOf f .deps)) s ≡ false = off-window (loopOf f) ii (take op starts₀) h (length (loopOf f .deps)) from to s w l i in
+          record {
+            rows-same = turn .rows-same;
+            kept = turn .kept;
+            same-length = turn .same-length;
+            within = omega arith;
+            paid = omega (arith, turn .paid);
+            to-come =
+                ap (λ (j : ℕ). runO L h (n - op - 1) j (h - j) (purse - 1)) (add-one s)
+                ∙ sym (run-skip L h (n - op - 1) s (h - suc s) purse here (barred-below (loopOf f) ii (take op starts₀) s in-loop barred) (omega arith))
+                ∙ first-apart l;
+          }
+
+    module _ {later : List ℕ} {r : Found} (l : s < h) (more : purse ≡ 0 → ⊥) (tried : Done (branch f starts op n ii h s (purse - 1)) n op (take op starts ++ s ∷ []) starts later r) where
+      -- the later starts, with what is left
+      abbrev onward : ℕ → Res
+      onward = runO L h (n - op - 1) (suc s) (h - suc s)
+
+      -- what s and the later starts come to
+      comes-to : below f starts₀ op n ii h left ≡ after s (branch f starts op n ii h s (purse - 1)) onward
+      comes-to =
+          let y : purse ≡ suc (purse - 1) = omega arith in
+          sym (first-apart l) ∙ ap (λ (b : ℕ). runO L h (n - op - 1) s (suc (h - suc s)) b) y
+          ∙ run-step L h (n - op - 1) s (h - suc s) (purse - 1) here
+          ∙ ap (λ (p : List ℕ). after s (run (under (under (legal (loopOf f) ii) p) (s ∷ [])) h (n - op - 1) (purse - 1)) onward) (sym (turn .kept))
+
+      -- the list that s leads to
+      wrote : Wrote n (take op starts₀ ++ s ∷ []) later (branch f starts op n ii h s (purse - 1))
+      wrote = subst (λ (p : List ℕ). Wrote n (p ++ s ∷ []) later (branch f starts op n ii h s (purse - 1))) (turn .kept) (tried .list)
+
+      -- a list is found
+      finds : (k : ℕ) → r ≡ All k → Done (below f starts₀ op n ii h left) n op (take op starts₀) starts₀ later (All k)
+      finds k e =
+          let q = all-then s n (take op starts₀) later onward (below f starts₀ op n ii h left) (branch f starts op n ii h s (purse - 1)) k comes-to (sym (tried .says) ∙ e) wrote in
+          record { says = q .0; list = q .1; kept = tried .kept ∙ turn .kept; same-length = tried .same-length ∙ turn .same-length }
+
+      -- the budget is spent
+      stops : r ≡ Spent → Done (below f starts₀ op n ii h left) n op (take op starts₀) starts₀ later Spent
+      stops e =
+          let q = spent-then s n (take op starts₀) later onward (below f starts₀ op n ii h left) (branch f starts op n ii h s (purse - 1)) comes-to (sym (tried .says) ∙ e) in
+          record { says = q .0; list = q .1; kept = tried .kept ∙ turn .kept; same-length = tried .same-length ∙ turn .same-length }
+
+      -- there is no list
+      goes-on : {rows₁ : List ℕ} (k : ℕ) → rows₁ ≡ rows → r ≡ Nothing k → Turn f starts₀ rows₀ op n ii h left later rows₁ k (s + 1)
+      goes-on k same e =
+          let t : tell (branch f starts op n ii h s (purse - 1)) ≡ Nothing k = sym (tried .says) ∙ e in
+          record {
+            rows-same = same ∙ turn .rows-same;
+            kept = tried .kept ∙ turn .kept;
+            same-length = tried .same-length ∙ turn .same-length;
+            within = omega arith;
+            paid = omega (arith, turn .paid, spare (under (under (legal (loopOf f) ii) (take op starts)) (s ∷ [])) h (n - op - 1) (purse - 1) k t);
+            to-come =
+                ap (λ (j : ℕ). runO L h (n - op - 1) j (h - j) k) (add-one s)
+                ∙ none-then s n (take op starts₀) later onward (below f starts₀ op n ii h left) (branch f starts op n ii h s (purse - 1)) k comes-to t;
+          }
+
+      -- the three together
+      pub turned : {rows₁ : List ℕ} → rows₁ ≡ rows → Turned f starts₀ rows₀ op n ii h left later rows₁ r s
+      turned same = record {
+        same = same ∙ turn .rows-same;
+        same-length = tried .same-length ∙ turn .same-length;
+        if-all = finds;
+        if-spent = stops;
+        if-none = λ k. goes-on k same;
+      }
+
+-- ---- one start, which the dependences allow
+
+module _ {f starts rows : List ℕ} {op n ii h s first : ℕ}
+    (asked : Ready f starts rows op n ii h × (op < n) × (s < h) × (allowed (loopOf f) ii (take op starts) (length (loopOf f .deps)) s ≡ true) × (first ≡ firstUseOf (loopOf f) op)) where
+  -- where the search stands
+  abbrev ready : Ready f starts rows op n ii h
+  ready = asked .0
+
+  -- the operation
+  abbrev p : Op
+  p = opAt (loopOf f) op
+
+  -- the operations before it, placed
+  abbrev placing : Placing
+  placing = placed (take op starts)
+
+  -- the rows with the operation reserved
+  abbrev reserved : List ℕ
+  reserved = overUses withBit ii s (p .uses) (length (p .uses)) rows
+
+  -- the loop is in order
+  loop-ok : LoopOk (loopOf f)
+  loop-ok = accepted-ok f (ready .accepted)
+
+  -- it is an operation of the loop
+  op-in : op < size (loopOf f)
+  op-in = omega (arith, asked .1, ready .is-size)
+
+  -- it is one of 64
+  pub op-few : op < 64
+  op-few = omega (arith, op-in, loop-ok .few)
+
+  -- it is the one after the prefix
+  len : length (take op starts) ≡ op
+  len = prefix-length ready
+
+  -- which is not all operations
+  in-loop : length (take op starts) < size (loopOf f)
+  in-loop = omega (arith, len, op-in)
+
+  -- it is not placed yet
+  open-yet : placing op ≡ none
+  open-yet = placed-after (take op starts) op (omega (arith, len))
+
+  -- every count of the cells is a bit
+  digits : Digits 2 (cellsOf (loopOf f) ii placing)
+  digits = legal-digits (loopOf f) ii placing loop-ok (ready .fine)
+
+  -- it meets a taken cell: nothing begins with it
+  pub unfit : {b : ℕ} → (firstTaken ii rows s (p .uses) ≡ none → ⊥) → Done (branch f starts op n ii h s b) n op (take op starts ++ s ∷ []) starts starts (Nothing b)
+  unfit {b} taken =
+      let below-s = unfit-below (loopOf f) ii (take op starts) s in-loop (ap (λ (o : ℕ). fitsAt (loopOf f) ii placing o s) len ∙ no-fit (fitsAt (loopOf f) ii placing op s) refl) in
+      let r : branch f starts op n ii h s b ≡ no-more b = run-unfit (under (under (legal (loopOf f) ii) (take op starts)) (s ∷ [])) h (n - op - 1) b below-s in
+      record { says = rw r; list = rw r tt; kept = refl; same-length = refl }
+    where
+      no-fit : (c : Bool) → fitsAt (loopOf f) ii placing op s ≡ c → c ≡ false
+      no-fit true e =
+          absurd (taken (conflict-free (loopOf f) ii placing op s loop-ok (ready .some) op-in open-yet rows (ready .held) digits (fits-conflict (loopOf f) ii placing op s e)))
+      no-fit false e = refl
+
+  -- the starts with one more
+  one-more : take (op + 1) (set starts op s) ≡ take op starts ++ s ∷ []
+  one-more = ap (λ (k : ℕ). take k (set starts op s)) (add-one op) ∙ take-suc-set starts op s (omega (arith, asked .1, ready .long))
+
+  -- which place it too
+  next-placing : placed (take (op + 1) (set starts op s)) ≡ placeAt placing op s
+  next-placing = ap placed one-more ∙ placed-snoc (take op starts) s ∙ ap (λ (o : ℕ). placeAt placing o s) len
+
+  module _ (free : firstTaken ii rows s (p .uses) ≡ none) where
+    -- it does not conflict
+    clear : conflicts (loopOf f) ii placing op s ≡ false
+    clear = free-conflict (loopOf f) ii placing op s loop-ok (ready .some) op-in open-yet rows (ready .held) digits free
+
+    -- so it can be reserved
+    pub can-reserve : UsesIn 0 rows ii s (p .uses)
+    can-reserve = reserve-uses (loopOf f) ii placing op s loop-ok (ready .some) op-in open-yet rows (ready .held) digits (omega (arith, asked .2, ready .near)) clear
+
+    -- the table with it
+    with-it : {rows₁ : List ℕ} → rows₁ ≡ reserved → IsTable 2 ii (cellsOf (loopOf f) ii (placeAt placing op s)) rows₁
+    with-it e = rw e (reserve-place (loopOf f) ii placing op s loop-ok (ready .some) op-in open-yet rows (ready .held))
+
+    -- it fits
+    fits-here : fitsAt (loopOf f) ii placing op s ≡ true
+    fits-here =
+        ap (λ (o : ℕ). fitsAt (loopOf f) ii placing o s) (sym len) ∙ fits-next (loopOf f) ii (take op starts) s
+        ∙ and-both (allowed (loopOf f) ii (take op starts) (length (loopOf f .deps)) s) _ (asked .3)
+        (ap (λ (o : ℕ). not (conflicts (loopOf f) ii placing o s)) len ∙ false-not (conflicts (loopOf f) ii placing op s) clear)
+
+    -- so the placing with it is legal
+    legal-with : legalAt (loopOf f) ii (placeAt placing op s) ≡ true
+    legal-with =
+        legal-place (loopOf f) ii placing op s op-in open-yet
+        ∙ and-both (legalAt (loopOf f) ii placing) (fitsAt (loopOf f) ii placing op s) (ready .fine) fits-here
+
+    -- the search stands one operation deeper
+    pub deeper : {rows₁ : List ℕ} → rows₁ ≡ reserved → Ready f (set starts op s) rows₁ (op + 1) n ii h
+    deeper {rows₁} e = record {
+      accepted = ready .accepted;
+      is-size = ready .is-size;
+      deep = omega (arith, asked .1);
+      some = ready .some;
+      short = ready .short;
+      near = ready .near;
+      long = omega (arith, ready .long, length-set starts op s);
+      early = λ o l. pick o (omega arith) (ℕ-discrete o op);
+      held = subst (λ (g : Placing). IsTable 2 ii (cellsOf (loopOf f) ii g) rows₁) (sym next-placing) (with-it e);
+      fine = ap (legalAt (loopOf f) ii) next-placing ∙ legal-with;
+    }
+      where
+        pick : (o : ℕ) → o ≤ op → Dec (o ≡ op) → getD (set starts op s) o 0 < 4096
+        pick o l (yes e) = rw e (omega (arith, getD-set-same starts op s 0 (omega (arith, asked .1, ready .long)), asked .2, ready .near))
+        pick o l (no ne) = omega (arith, getD-set-other starts op o s 0 ne, ready .early o (omega arith))
+
+    module _ {rows₁ rows₂ : List ℕ} (put : rows₁ ≡ reserved) (same : rows₂ ≡ rows₁) where
+      -- the rows as they were after reserving: it can be released
+      pub can-release : UsesIn 1 rows₂ ii s (p .uses)
+      can-release =
+          release-uses (loopOf f) ii placing op s loop-ok (ready .some) op-in open-yet (omega (arith, asked .2, ready .near)) rows₂ (with-it (same ∙ put))
+          (legal-digits (loopOf f) ii (placeAt placing op s) loop-ok legal-with)
+
+      -- which gives the first rows back
+      pub given-back : {rows₃ : List ℕ} → rows₃ ≡ overUses lessBit ii s (p .uses) (length (p .uses)) rows₂ → rows₃ ≡ rows
+      given-back e = e ∙ ap (overUses lessBit ii s (p .uses) (length (p .uses))) (same ∙ put) ∙ restored ii s p (loop-ok .op-ok op op-in) (ready .some) (cellsOf (loopOf f) ii placing) rows (ready .held)
+
+  -- what the operations after it come to is what its branch comes to
+  pub back : (b : ℕ) {later : List ℕ} {r : Found} → Done (below f (set starts op s) (op + 1) n ii h b) n (op + 1) (take (op + 1) (set starts op s)) (set starts op s) later r
+      → Done (branch f starts op n ii h s b) n op (take op starts ++ s ∷ []) starts later r
+  back b {later} done =
+      let z : n - (op + 1) ≡ n - op - 1 = omega arith in
+      let q : below f (set starts op s) (op + 1) n ii h b ≡ branch f starts op n ii h s b =
+      ap (λ (m : ℕ). run (under (legal (loopOf f) ii) (take (op + 1) (set starts op s))) h m b) z
+      ∙ ap (λ (x : List ℕ). run (under (legal (loopOf f) ii) x) h (n - op - 1) b) one-more
+      ∙ ap (λ (M : List ℕ → Bool). run M h (n - op - 1) b) (fun-ext (λ w. ap (legal (loopOf f) ii) (append-snoc (take op starts) s w))) in
+      record {
+        says = done .says ∙ ap tell q;
+        list = rw (q, one-more) at (done .list);
+        kept =
+            sym (take-take op (op + 1) later (omega arith)) ∙ ap (take op) (done .kept) ∙ take-take op (op + 1) (set starts op s) (omega arith)
+            ∙ take-set-le op starts op s (omega arith);
+        same-length = done .same-length ∙ length-set starts op s;
+      }

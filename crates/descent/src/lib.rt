@@ -1,0 +1,116 @@
+// The search at one interval: two functions that call each other. `choose` takes the next operation in number order, works out its window and the number of its first
+// use once and goes through its starts; `try_start` tests one start against the table, reserves, lets `choose` go on with the next operation, and releases. A start is
+// paid for before it is looked at, so what is left of the budget falls with every turn. Internal: each function asks for an accepted file and rows that hold the
+// operations placed so far.
+mod window;
+
+use crate::window::window_of;
+use loop_access::first_use;
+use reservation::Place;
+use reservation::cells::release;
+use reservation::cells::reserve;
+use reservation::test::conflict;
+ghost use mathlib.Core.Path.{_≡_};
+ghost use mathlib.Core.Bool.{true};
+ghost use mathlib.Core.List.{[], _∷_, _++_};
+ghost use Prim.Native.Nat.{_<_};
+ghost use lib.ListN.{length, take};
+ghost use Rattle.model.specs.Loop.{firstUseOf};
+ghost use Rattle.model.specs.File.{loopOf};
+ghost use Rattle.descent.specs.Span.{allowed};
+ghost use Rattle.descent.specs.Descent.{Ready, Done, below, branch};
+
+// What a part of the search comes to: every operation has a start, and so much is left of the budget; the budget is spent; there is no list, and so much is left.
+pub enum Found {
+    All(usize),
+    Spent,
+    Nothing(usize),
+}
+
+// The starts of operation `op` and of those after it.
+pub fn choose(
+    file: &[u8],
+    starts: &mut [u16],
+    rows: &mut [u64],
+    op: usize,
+    n: usize,
+    interval: usize,
+    horizon: usize,
+    left: usize,
+) -> Found
+    requires { ⌜ Ready (now file) (now starts) (now rows) op n interval horizon ⌝ }
+    ensures done { λ r. ⌜ Done (below (now (file .entry)) (now (starts .entry)) op n interval horizon left) n op (take op (now (starts .entry))) (now (starts .entry)) (now (starts .exit)) r ⌝ }
+    ensures same { λ r. ⌜ now (rows .exit) ≡ now (rows .entry) ⌝ }
+{
+    if op == n {
+        return Found::All(left);
+    }
+    let w = window_of(file, op, starts, interval, horizon);
+    let first = first_use(file, op);
+    let mut purse = left;
+    let mut s = 0;
+    while s < horizon {
+        if purse == 0 {
+            return Found::Spent;
+        }
+        purse = purse - 1;
+        if w.from <= s {
+            if s < w.to {
+                let f = try_start(
+                    file,
+                    starts,
+                    rows,
+                    op,
+                    first,
+                    n,
+                    interval,
+                    horizon,
+                    s,
+                    purse,
+                );
+                match f {
+                    Found::All(l) => {
+                        return Found::All(l);
+                    }
+                    Found::Spent => {
+                        return Found::Spent;
+                    }
+                    Found::Nothing(l) => {
+                        purse = l;
+                    }
+                }
+            }
+        }
+        s = s + 1;
+    }
+    Found::Nothing(purse)
+}
+
+// Operation `op` at s, which its window has, and the operations after it. The probe is paid for. The number of its first use, `first`, is worked out once for each
+// chosen operation, and so handed in.
+fn try_start(
+    file: &[u8],
+    starts: &mut [u16],
+    rows: &mut [u64],
+    op: usize,
+    first: usize,
+    n: usize,
+    interval: usize,
+    horizon: usize,
+    s: usize,
+    left: usize,
+) -> Found
+    requires { ⌜ Ready (now file) (now starts) (now rows) op n interval horizon × (op < n) × (s < horizon) × (allowed (loopOf (now file)) interval (take op (now starts)) (length (loopOf (now file) .deps)) s ≡ true) × (first ≡ firstUseOf (loopOf (now file)) op) ⌝ }
+    ensures done { λ r. ⌜ Done (branch (now (file .entry)) (now (starts .entry)) op n interval horizon s left) n op (take op (now (starts .entry)) ++ s ∷ []) (now (starts .entry)) (now (starts .exit)) r ⌝ }
+    ensures same { λ r. ⌜ now (rows .exit) ≡ now (rows .entry) ⌝ }
+{
+    let place = conflict(file, op, first, s, interval, rows);
+    let Place::Free = place else {
+        return Found::Nothing(left);
+    };
+    starts[op] = s as u16;
+    reserve(file, op, first, s, interval, rows);
+    let f = choose(file, starts, rows, op + 1, n, interval, horizon, left);
+    release(file, op, first, s, interval, rows);
+    f
+}

@@ -1,0 +1,104 @@
+// The window of an operation: the starts that its dependences with itself and with earlier operations allow. It is worked out once for each operation chosen, so that a
+// start outside it costs a comparison. Internal: each function asks for an accepted file.
+use loop_access::delay;
+use loop_access::dep_count;
+use loop_access::distance;
+use loop_access::source;
+use loop_access::target;
+ghost use Prim.Native.Nat.{_<_, _≤_};
+ghost use lib.ListN.{length, take};
+ghost use Rattle.model.specs.Loop.{size};
+ghost use Rattle.model.specs.File.{loopOf, Accepted};
+ghost use Rattle.descent.specs.Span.{EarliestIs, TooLateIs, NarrowedIs, WindowIs, Early};
+
+// The starts from `from` to `to` - 1.
+pub struct Window {
+    pub from: usize,
+    pub to: usize,
+}
+
+// The first start of dependence e's target that it allows, with its source at `start`.
+fn earliest(file: &[u8], e: usize, start: usize, interval: usize) -> usize
+    requires { ⌜ Accepted (now file) × (e < length (loopOf (now file) .deps)) × (start < 4096) × (interval ≤ 4096) ⌝ }
+    ensures { λ r. ⌜ EarliestIs (loopOf (now (file .entry))) interval e start r ⌝ }
+{
+    let lag = interval * distance(file, e);
+    let due = start as i32 + delay(file, e) - lag as i32;
+    if due < 0 {
+        return 0;
+    }
+    due as usize
+}
+
+// The first start of dependence e's source that it does not allow, with its target at `start`.
+fn too_late(file: &[u8], e: usize, start: usize, interval: usize) -> usize
+    requires { ⌜ Accepted (now file) × (e < length (loopOf (now file) .deps)) × (start < 4096) × (interval ≤ 4096) ⌝ }
+    ensures { λ r. ⌜ TooLateIs (loopOf (now (file .entry))) interval e start r ⌝ }
+{
+    let lag = interval * distance(file, e);
+    let last = start as i32 + lag as i32 - delay(file, e);
+    if last < 0 {
+        return 0;
+    }
+    last as usize + 1
+}
+
+// The window, narrowed by dependence e where it is one of the operation with itself or an earlier one.
+fn narrowed(file: &[u8], e: usize, op: usize, starts: &[u16], interval: usize, w: Window) -> Window
+    requires { ⌜ Accepted (now file) × (e < length (loopOf (now file) .deps)) × (op < size (loopOf (now file))) × (op ≤ length (now starts)) × Early op (now starts) × (interval ≤ 4096) ⌝ }
+    ensures { λ r. ⌜ NarrowedIs (loopOf (now (file .entry))) interval (take op (now (starts .entry))) e (w .from) (w .to) (r .from) (r .to) ⌝ }
+{
+    let from = source(file, e);
+    let to = target(file, e);
+    if from == op {
+        if to == op {
+            if too_late(file, e, 0, interval) == 0 {
+                return Window {
+                    from: w.from,
+                    to: 0,
+                };
+            }
+            return w;
+        }
+        if to < op {
+            let end = too_late(file, e, starts[to] as usize, interval);
+            if end < w.to {
+                return Window {
+                    from: w.from,
+                    to: end,
+                };
+            }
+        }
+        return w;
+    }
+    if to == op {
+        if from < op {
+            let begin = earliest(file, e, starts[from] as usize, interval);
+            if w.from < begin {
+                return Window {
+                    from: begin,
+                    to: w.to,
+                };
+            }
+        }
+    }
+    w
+}
+
+// The window of an operation among the starts below the horizon.
+pub fn window_of(file: &[u8], op: usize, starts: &[u16], interval: usize, horizon: usize) -> Window
+    requires { ⌜ Accepted (now file) × (op < size (loopOf (now file))) × (op ≤ length (now starts)) × Early op (now starts) × (interval ≤ 4096) ⌝ }
+    ensures { λ r. ⌜ WindowIs (loopOf (now (file .entry))) interval (take op (now (starts .entry))) horizon (length (loopOf (now (file .entry)) .deps)) (r .from) (r .to) ⌝ }
+{
+    let m = dep_count(file);
+    let mut w = Window {
+        from: 0,
+        to: horizon,
+    };
+    let mut e = 0;
+    while e < m {
+        w = narrowed(file, e, op, starts, interval, w);
+        e = e + 1;
+    }
+    w
+}

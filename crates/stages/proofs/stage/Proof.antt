@@ -1,0 +1,18 @@
+-- `stage` meets its contract. Assumes nothing.
+use mathlib.Core.Path.{sym}
+use native.Mathlib.Nat.{div-zero}
+use borrow.Author.Needs.{needs}
+use Rattle.stages.proofs.stage.Statement.{statement}
+use Rattle.stages.proofs.stage.Tie as tie
+
+returns : tie.Need-returns
+returns c = rw (c .if1 .taken) (sym (div-zero (c .before .args .start)))
+
+div-result : tie.Need-div-result
+div-result c = search needs
+
+returns-2 : tie.Need-returns-2
+returns-2 c = search needs
+
+pub stage-spec : {M : Type 1} → statement M
+stage-spec = tie.close (tie.spec returns div-result returns-2)
