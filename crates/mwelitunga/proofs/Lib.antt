@@ -1,5 +1,3 @@
 -- Hand-written laws of the crate that belong to no one function.
 pub mod Told
-pub mod Writing
-pub mod Replays
 pub mod Promises

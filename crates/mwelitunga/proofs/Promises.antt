@@ -11,9 +11,9 @@ use Rattle.model.specs.Undo.{NoneGives}
 use Rattle.model.proofs.Lists.{length-tabulate}
 use Rattle.model.proofs.Table.{length-table}
 use Rattle.model.proofs.Undo.{back-whole}
-use Rattle.session.specs.Board.{setupAs}
-use Rattle.mwelitunga.specs.Replay.{callsOf, replayFile, startWord, startWords, startsLeft, rowsLeft, Replayed}
-use Rattle.mwelitunga.proofs.Writing.{written-all}
+use Rattle.board.specs.Board.{setupAs}
+use Rattle.replay.specs.Replay.{callsOf, replayFile, startWord, startWords, startsLeft, rowsLeft, Replayed}
+use Rattle.replay.proofs.Writing.{written-all}
 
 -- ---- a call of mw_session that is not refused
 

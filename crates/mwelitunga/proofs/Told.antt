@@ -9,7 +9,8 @@ use Rattle.bounds.specs.declared.LowerBounds.{LowerBounds}
 use Rattle.bounds.specs.Answer.{boundsOf}
 use Rattle.search.specs.declared.Searched.{Searched}
 use Rattle.search.specs.Answer.{answerOf, Searches}
-use Rattle.mwelitunga.specs.Words.{written, numberOf, wordsOf, Gives, lowerWords, BoundsGiven, outcomeNumber, outcomeWords, SearchGiven}
+use Rattle.replay.specs.Words.{written, numberOf, wordsOf, Gives}
+use Rattle.mwelitunga.specs.Words.{lowerWords, BoundsGiven, outcomeNumber, outcomeWords, SearchGiven}
 
 -- x says the answer a, and x is y: what is returned and written for y is given of a
 pub told : {X A : Type 0} (says : X → Answer A) {x y : X} {a : Answer A} {tell : A → List ℕ} {r : ℕ} {before after : List ℕ} → says x ≡ a → x ≡ y → r ≡ numberOf (says y)

@@ -1,33 +1,14 @@
--- The answers as numbers: what the C functions return and write. Assumes nothing.
+-- The answers of reader, bounds, verifier and search as numbers. Assumes nothing.
 use mathlib.Core.Path.{_≡_}
 use mathlib.Core.List.{List, [], _∷_}
-use Prim.Native.Nat.{ℕ, suc}
-use lib.ListN.{length, set}
+use Prim.Native.Nat.{ℕ}
+use lib.ListN.{length}
 use Rattle.model.specs.Refusals.{Answer, answered, refused}
 use Rattle.model.specs.Bounds.{Lower, BoundsIs}
 use Rattle.model.specs.Search.{Outcome, found, ended, SearchIs, listAfter, rowsAfter}
 use Rattle.model.specs.Verifier.{Verdict, legal, breach, clash}
 use Rattle.loop_file.specs.Read.{Counts}
-
--- these numbers stored in the places from i on
-unfoldable pub written : ℕ → List ℕ → List ℕ → List ℕ
-written i [] old = old
-written i (w ∷ ws) old = written (suc i) ws (set old i w)
-
--- what is returned: 0, or the refusal's number
-abbrev pub numberOf : {A : Type 0} → Answer A → ℕ
-numberOf (answered a) = 0
-numberOf (refused r) = r .number
-
--- the eight numbers that are written: 0 and what was found, or the refusal's detail
-abbrev pub wordsOf : {A : Type 0} → (A → List ℕ) → Answer A → List ℕ
-wordsOf tell (answered a) = 0 ∷ tell a
-wordsOf tell (refused r) = r .detail ∷ 0 ∷ 0 ∷ 0 ∷ 0 ∷ 0 ∷ 0 ∷ 0 ∷ []
-
--- a call whose answer is a, told by `tell`: r is returned, and `after` stands where `before` stood
-pub record Gives {A : Type 0} (a : Answer A) (tell : A → List ℕ) (r : ℕ) (before after : List ℕ) : Type 0 where
-  pub number : r ≡ numberOf a
-  pub words : after ≡ written 0 (wordsOf tell a) before
+use Rattle.replay.specs.Words.{written, Gives}
 
 -- operations, uses, dependences
 abbrev pub countWords : Counts → List ℕ

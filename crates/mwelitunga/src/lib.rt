@@ -1,11 +1,9 @@
 // The library that a compiler links: the entry points as C functions over numbers and slices. A slice is a pointer and a length, `answer` a pointer to eight numbers. A function that has
 // an answer returns 0, or the number of the refusal, and writes all eight: first the refusal's detail, 0 where there is none, then what was found, then zeros. None asks for anything.
-mod replay;
-
+use board::Checked;
 use bounds::LowerBounds;
 use loop_file::Reading;
 use search::Searched;
-use session::Checked;
 use verifier::Verdict;
 ghost use mathlib.Core.Path.{_≡_};
 ghost use mathlib.Core.List.{[], _∷_};
@@ -13,8 +11,9 @@ ghost use Rattle.model.specs.File.{readFile};
 ghost use Rattle.model.specs.Search as model;
 ghost use Rattle.model.specs.Verifier.{verifyFile};
 ghost use Rattle.loop_file.specs.Read.{counted};
-ghost use Rattle.mwelitunga.specs.Words.{written, Gives, countWords, verdictWords, BoundsGiven, SearchGiven};
-ghost use Rattle.mwelitunga.specs.Replay.{Replayed};
+ghost use Rattle.replay.specs.Words.{written, Gives};
+ghost use Rattle.mwelitunga.specs.Words.{countWords, verdictWords, BoundsGiven, SearchGiven};
+ghost use Rattle.replay.specs.Replay.{Replayed};
 
 // The eight numbers of an answer, the last two 0.
 fn write_answer(answer: &mut [u64; 8], a: usize, b: usize, c: usize, d: usize, e: usize, f: usize)

@@ -16,15 +16,15 @@ use Rattle.model.specs.Undo.{NoneGives, markedBy, placings, OrderOf, AllDone}
 use Rattle.model.proofs.Table.{length-table}
 use Rattle.model.proofs.Undo.{back-to, back-pure, start-table, Good, replay}
 use Rattle.reservation.specs.Seats.{seats}
-use Rattle.session.specs.Board.{setupAs}
-use Rattle.session.specs.Moves.{replyOf}
+use Rattle.board.specs.Board.{setupAs}
+use Rattle.board.specs.Moves.{replyOf}
 use Rattle.session.specs.View.{setupOf, stateOf, fileOf, Valid, Stepped, Opened}
 use Rattle.session.specs.Undo.{Run, stop, next, Demand3}
 use Rattle.session.specs.declared.Session.{Session}
-use Rattle.session.specs.declared.Reply.{Reply}
-use Rattle.session.specs.declared.Checked.the-variants as checked
-use Rattle.session.proofs.Readings.{starts-length, seats-are}
-use Rattle.session.proofs.Boards.{few-operations}
+use Rattle.board.specs.declared.Reply.{Reply}
+use Rattle.board.specs.declared.Checked.the-variants as checked
+use Rattle.board.proofs.Readings.{starts-length, seats-are}
+use Rattle.board.proofs.Boards.{few-operations}
 
 -- ---- a session by the model
 

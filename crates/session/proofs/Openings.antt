@@ -19,12 +19,12 @@ use Rattle.model.proofs.Legality.{legal-nothing}
 use Rattle.model.proofs.Table.{table-nil, cells-nothing}
 use Rattle.reservation.specs.Seats.{seatOf, seats}
 use Rattle.reservation.proofs.Stores.{cleared, cleared-length}
-use Rattle.session.specs.Board.{startsOf, setupAs, Board}
+use Rattle.board.specs.Board.{startsOf, setupAs, Board}
 use Rattle.session.specs.View.{fileOf, stateOf, blank, Valid, closedSession, Opened}
 use Rattle.session.specs.declared.Session.{Session}
-use Rattle.session.specs.declared.Checked.the-variants as checked
-use Rattle.session.proofs.Boards.{few-operations}
-use Rattle.session.proofs.Refusing.{numbers, open-later}
+use Rattle.board.specs.declared.Checked.the-variants as checked
+use Rattle.board.proofs.Boards.{few-operations}
+use Rattle.board.proofs.Refusing.{numbers, open-later}
 
 -- ---- an empty array
 

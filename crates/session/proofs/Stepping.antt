@@ -22,16 +22,16 @@ use Rattle.model.proofs.Firsts.{getD-within}
 use Rattle.model.proofs.Table.{table-take}
 use Rattle.model.proofs.Session.{step-refused, step-done, checkpoint-done, rollback-done}
 use Rattle.reservation.specs.Seats.{seats}
-use Rattle.session.specs.Board.{startsOf, Sane, Board}
-use Rattle.session.specs.Moves.{Did, Restored}
+use Rattle.board.specs.Board.{startsOf, Sane, Board}
+use Rattle.board.specs.Moves.{Did, Restored}
 use Rattle.session.specs.View.{fileOf, setupOf, stateOf, blank, Valid, Stepped}
 use Rattle.session.specs.declared.Starts as starts
 use Rattle.session.specs.declared.Session.{Session}
-use Rattle.session.specs.declared.Reply as declared
-use Rattle.session.specs.declared.Reply.the-variants as reply
-use Rattle.session.proofs.Readings.{seats-are}
-use Rattle.session.proofs.Boards.{few-operations}
-use Rattle.session.proofs.Doing.{done-kept}
+use Rattle.board.specs.declared.Reply as declared
+use Rattle.board.specs.declared.Reply.the-variants as reply
+use Rattle.board.proofs.Readings.{seats-are}
+use Rattle.board.proofs.Boards.{few-operations}
+use Rattle.board.proofs.Doing.{done-kept}
 
 -- ---- lists
 

@@ -1,15 +1,8 @@
--- What the checks of a call answer. Assumes nothing.
-use mathlib.Core.Option.{Option, none, some}
-use Rattle.model.specs.Refusals.{Refusal}
+-- What opening answers for a refused file. Assumes nothing.
 use Rattle.loop_file.specs.declared.Reading.{Reading}
 use Rattle.loop_file.specs.declared.Reading.the-variants as reading
-use Rattle.session.specs.declared.Checked.{Checked}
-use Rattle.session.specs.declared.Checked.the-variants as checked
-
--- the refusal, where there is one
-abbrev pub refusalOf : Checked → Option Refusal
-refusalOf checked.Fine = none
-refusalOf (checked.Refused n d) = some (record { number = n; detail = d })
+use Rattle.board.specs.declared.Checked.{Checked}
+use Rattle.board.specs.declared.Checked.the-variants as checked
 
 -- the reader's refusal as that of opening
 abbrev pub asUnread : Reading → Checked

@@ -7,12 +7,12 @@ use Rattle.model.specs.Refusals.{Answer, answered}
 use Rattle.model.specs.Session.{Call, checkpoint, rollback, done, numbered, stateTable, start, after, replies}
 use Rattle.model.specs.Session as model
 use Rattle.model.specs.Undo.{NoneGives, markedBy, placings, OrderOf, AllDone}
-use Rattle.session.specs.Board.{setupAs}
-use Rattle.session.specs.Moves.{replyOf}
+use Rattle.board.specs.Board.{setupAs}
+use Rattle.board.specs.Moves.{replyOf}
 use Rattle.session.specs.View.{setupOf, stateOf, Valid, Stepped, Opened}
 use Rattle.session.specs.declared.Session.{Session}
-use Rattle.session.specs.declared.Reply.{Reply}
-use Rattle.session.specs.declared.Checked.the-variants as checked
+use Rattle.board.specs.declared.Reply.{Reply}
+use Rattle.board.specs.declared.Checked.the-variants as checked
 
 -- calls one after the other, each on the session and the rows that the one before left, with their answers
 pub data Run : Session → List ℕ → List Call → List (Answer model.Reply) → Session → List ℕ → Type 0 where

@@ -7,13 +7,13 @@ use Rattle.model.specs.Refusals.{Refusal, Answer, answered, refused}
 use Rattle.model.specs.Loop.{size}
 use Rattle.model.specs.File.{loopOf}
 use Rattle.model.specs.Session.{Setup, State, Call, stateTable, openFile, openRows, start, step}
-use Rattle.session.specs.Board.{startsOf, setupAs, Sane, Board}
-use Rattle.session.specs.Moves.{replyOf}
+use Rattle.board.specs.Board.{startsOf, setupAs, Sane, Board}
+use Rattle.board.specs.Moves.{replyOf}
 use Rattle.session.specs.declared.Starts as starts
 use Rattle.session.specs.declared.Session.{Session}
-use Rattle.session.specs.declared.Reply.{Reply}
-use Rattle.session.specs.declared.Checked.{Checked}
-use Rattle.session.specs.declared.Checked.the-variants as checked
+use Rattle.board.specs.declared.Reply.{Reply}
+use Rattle.board.specs.declared.Checked.{Checked}
+use Rattle.board.specs.declared.Checked.the-variants as checked
 
 -- ---- what it says in the model
 

@@ -1,21 +1,11 @@
-// What each call is refused for, in document 01's order. Internal: each function asks for an accepted file, but for that of opening.
-use crate::Checked;
+// What opening is refused for, in document 01's order.
+use board::Checked;
 use loop_file::Reading;
-use loop_access::first_use;
-use loop_access::op_count;
-use reservation::Broken;
-use reservation::Place;
-use reservation::deps::first_broken;
-use reservation::pairs::too_long;
-use reservation::test::conflict;
 ghost use mathlib.Core.Path.{_≡_};
-ghost use mathlib.Core.List.{[], _∷_};
 ghost use Rattle.model.specs.Refusals.{firstRefusal};
-ghost use Rattle.model.specs.File.{Accepted};
-ghost use Rattle.model.specs.Session.{openChecks, checks, absent, taken, late};
-ghost use Rattle.model.specs.Session as model;
-ghost use Rattle.session.specs.Board.{Board, Named, Numbers, setupAs, bare};
-ghost use Rattle.session.specs.Checks.{refusalOf, asUnread};
+ghost use Rattle.model.specs.Session.{openChecks};
+ghost use Rattle.board.specs.Checks.{refusalOf};
+ghost use Rattle.session.specs.Checks.{asUnread};
 
 // The reader's refusal as that of opening. (An accepted reading has none, and is not asked for one.)
 fn unread(r: Reading) -> Checked
@@ -49,92 +39,6 @@ pub fn openable(file: &[u8], interval: usize, horizon: usize, rows: usize) -> Ch
     }
     if rows < interval {
         return Checked::Refused(20, rows);
-    }
-    Checked::Fine
-}
-
-// An operation that is there and not placed, and a start below the horizon: what placing and forcing have in common.
-fn known(file: &[u8], horizon: usize, op: usize, start: usize, starts: &[u16; 64]) -> Checked
-    requires { ⌜ Named (now file) (now starts) ⌝ }
-    ensures { λ r. ⌜ refusalOf r ≡ firstRefusal (absent (setupAs (now (file .entry)) 0 horizon) op ∷ taken (bare (now (file .entry)) (now (starts .entry))) op ∷ late (setupAs (now (file .entry)) 0 horizon) op start ∷ []) ⌝ }
-{
-    if op_count(file) <= op {
-        return Checked::Refused(12, op);
-    }
-    if starts[op] != 65535 {
-        return Checked::Refused(13, op);
-    }
-    if horizon <= start {
-        return Checked::Refused(15, op);
-    }
-    Checked::Fine
-}
-
-// Placing an operation at a start.
-pub fn placeable(
-    file: &[u8],
-    interval: usize,
-    horizon: usize,
-    op: usize,
-    start: usize,
-    starts: &[u16; 64],
-    rows: &[u64],
-) -> Checked
-    requires { ⌜ Board (now file) interval horizon (now starts) (now rows) ⌝ }
-    ensures { λ r. ⌜ refusalOf r ≡ firstRefusal (checks (setupAs (now (file .entry)) interval horizon) (model.place op start) (bare (now (file .entry)) (now (starts .entry)))) ⌝ }
-{
-    let first = known(file, horizon, op, start, starts);
-    let Checked::Fine = first else {
-        return first;
-    };
-    let broken = first_broken(file, op, start, interval, starts);
-    if let Broken::At(e) = broken {
-        return Checked::Refused(16, e);
-    }
-    let place = conflict(file, op, first_use(file, op), start, interval, rows);
-    let Place::Free = place else {
-        return Checked::Refused(17, 0);
-    };
-    Checked::Fine
-}
-
-// Forcing an operation to a start: only what concerns the operation itself counts.
-pub fn forceable(
-    file: &[u8],
-    interval: usize,
-    horizon: usize,
-    op: usize,
-    start: usize,
-    starts: &[u16; 64],
-) -> Checked
-    requires { ⌜ Accepted (now file) × Numbers interval horizon × Named (now file) (now starts) ⌝ }
-    ensures { λ r. ⌜ refusalOf r ≡ firstRefusal (checks (setupAs (now (file .entry)) interval horizon) (model.force op start) (bare (now (file .entry)) (now (starts .entry)))) ⌝ }
-{
-    let first = known(file, horizon, op, start, starts);
-    let Checked::Fine = first else {
-        return first;
-    };
-    let nobody = [65535u16; 64];
-    let broken = first_broken(file, op, start, interval, &nobody);
-    if let Broken::At(e) = broken {
-        return Checked::Refused(16, e);
-    }
-    if too_long(file, op, interval) {
-        return Checked::Refused(17, 0);
-    }
-    Checked::Fine
-}
-
-// Removing an operation.
-pub fn removable(file: &[u8], op: usize, starts: &[u16; 64]) -> Checked
-    requires { ⌜ Named (now file) (now starts) ⌝ }
-    ensures { λ r. ⌜ refusalOf r ≡ firstRefusal (checks (setupAs (now (file .entry)) 0 0) (model.remove op) (bare (now (file .entry)) (now (starts .entry)))) ⌝ }
-{
-    if op_count(file) <= op {
-        return Checked::Refused(12, op);
-    }
-    if starts[op] == 65535 {
-        return Checked::Refused(14, op);
     }
     Checked::Fine
 }

@@ -1,10 +1,11 @@
 // The session (document 01): a modulo reservation table in which operations are placed, forced, removed, checkpointed and rolled back. A session is a value: each call
-// takes it and hands back the next one, and the caller keeps the table of rows. The work is done in `moves`, on slices; here it is joined to the session's fields.
-mod board;
+// takes it and hands back the next one, and the caller keeps the table of rows. The work is done in the crate `board`, on slices; here it is joined to the session's fields.
 mod checks;
-mod moves;
-pub mod parts;
+mod store;
 
+pub use board::Checked;
+pub use board::Reply;
+use board::moves;
 use reservation::clear::clear_rows;
 ghost use mathlib.Core.Path.{_≡_};
 ghost use Rattle.model.specs.Session as model;
@@ -26,24 +27,10 @@ pub struct Session {
     pub saved: [Starts; 16],
 }
 
-// What a call answers: done; the operations that were displaced, bit i for operation i; the number of the new checkpoint; or a refusal with its number and detail.
-pub enum Reply {
-    Done,
-    Displaced(u64),
-    Numbered(usize),
-    Refused(usize, usize),
-}
-
 // The session after a call, and the answer.
 pub struct Outcome {
     pub session: Session,
     pub reply: Reply,
-}
-
-// Nothing against it, or a refusal with its number and detail.
-pub enum Checked {
-    Fine,
-    Refused(usize, usize),
 }
 
 // What opening answers. A refused opening hands out a session of nothing, which no call takes.
@@ -65,7 +52,7 @@ pub fn open(file: &[u8], interval: usize, horizon: usize, rows: &mut [u64]) -> O
         };
     };
     let mut copy = nothing.file;
-    board::copy_file(file, &mut copy);
+    store::copy_file(file, &mut copy);
     clear_rows(rows, interval);
     let mut t = nothing;
     t.file = copy;

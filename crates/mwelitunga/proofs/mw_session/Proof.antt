@@ -5,10 +5,10 @@ use native.Mathlib.Omega.{arith}
 use borrow.Author.Needs.{needs}
 use lib.ListN.{length}
 use Rattle.model.specs.Refusals.{firstRefusal}
-use Rattle.session.specs.Checks.{refusalOf}
+use Rattle.board.specs.Checks.{refusalOf}
 use Rattle.session.proofs.Calls.{from-open, ran}
-use Rattle.mwelitunga.specs.Replay.{callChecks}
-use Rattle.mwelitunga.proofs.Replays.{fit-room, opened-is, calls-refused, opening-refused, all-made}
+use Rattle.replay.specs.Replay.{callChecks}
+use Rattle.replay.proofs.Replays.{fit-room, opened-is, calls-refused, opening-refused, all-made}
 use Rattle.mwelitunga.proofs.mw_session.Statement.{statement}
 use Rattle.mwelitunga.proofs.mw_session.Tie as tie
 

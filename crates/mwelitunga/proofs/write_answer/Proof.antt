@@ -1,6 +1,6 @@
 -- `write_answer` meets its contract: eight stores, one after the other. Assumes nothing.
 use borrow.Author.Needs.{needs}
-use Rattle.mwelitunga.specs.Words.{written}
+use Rattle.replay.specs.Words.{written}
 use Rattle.mwelitunga.proofs.write_answer.Statement.{statement}
 use Rattle.mwelitunga.proofs.write_answer.Tie as tie
 

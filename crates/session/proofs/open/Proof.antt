@@ -7,7 +7,7 @@ use borrow.Author.Needs.{needs}
 use lib.ListN.{length, replicate, length-replicate}
 use Rattle.model.specs.Refusals.{firstRefusal}
 use Rattle.model.specs.Session.{openChecks}
-use Rattle.session.specs.Checks.{refusalOf}
+use Rattle.board.specs.Checks.{refusalOf}
 use Rattle.session.specs.View.{blank, closedSession}
 use Rattle.session.specs.declared.Session.{Session}
 use Rattle.session.proofs.Openings.{open-refused, open-short, open-some, open-room, open-done}

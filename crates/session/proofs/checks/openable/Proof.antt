@@ -7,8 +7,9 @@ use Rattle.model.specs.Search.{outside}
 use Rattle.model.proofs.Checks.{too-small, too-large, in-range}
 use Rattle.loop_file.specs.Read.{readingOf}
 use Rattle.loop_file.proofs.Answers.{read-accepted, read-refused}
-use Rattle.session.specs.Checks.{refusalOf, asUnread}
-use Rattle.session.proofs.Refusing.{open-early, open-interval, open-horizon, open-rows, open-fine}
+use Rattle.board.specs.Checks.{refusalOf}
+use Rattle.session.specs.Checks.{asUnread}
+use Rattle.board.proofs.Refusing.{open-early, open-interval, open-horizon, open-rows, open-fine}
 use Rattle.session.proofs.checks.openable.Statement.{statement}
 use Rattle.session.proofs.checks.openable.Tie as tie
 

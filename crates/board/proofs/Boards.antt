@@ -1,0 +1,213 @@
+-- Laws of lists of starts and of the boards that they make with their rows: one operation put in, one taken out, and fewer operations. Assumes nothing.
+use mathlib.Core.Path.{_≡_, refl, sym, ap, _∙_, fun-ext}
+use mathlib.Core.Bool.{true}
+use mathlib.Core.List.{List}
+use mathlib.Core.Logic.{_⊎_, inl, inr}
+use mathlib.Core.Option.{none, some}
+use Prim.Native.Nat.{ℕ, _≤_, _<_}
+use native.Mathlib.Decide.{ℕ-discrete, decLt}
+use native.Mathlib.Omega.{arith}
+use borrow.Author.Tests.{eq-eqb, ne-eqb}
+use lib.ListN.{length, getD, set, drop, length-set, length-drop}
+use lib.Seq.{getD-set-same, getD-set-other, set-out}
+use Rattle.model.specs.Loop.{Loop, size, opAt}
+use Rattle.model.specs.File.{loopOf, Accepted}
+use Rattle.model.specs.Legality.{Placing, legalAt, placeAt, fitsAt}
+use Rattle.model.specs.Table.{IsTable, cellsOf}
+use Rattle.model.proofs.Lists.{and-both}
+use Rattle.model.proofs.File.{accepted-ok}
+use Rattle.model.proofs.Legality.{Part, legal-part, legal-place, place-same}
+use Rattle.reservation.specs.Rows.{overUses, withBit, lessBit, UsesIn}
+use Rattle.reservation.specs.Seats.{seatOf, seats}
+use Rattle.reservation.proofs.Over.{uses-rest}
+use Rattle.reservation.proofs.Placings.{legal-digits, fits-conflict, reserve-place, reserve-uses, release-place, release-uses}
+use Rattle.reservation.proofs.Seats.{seat-some, seat-none}
+use Rattle.board.specs.Board.{Sane, Board, IsPut}
+
+-- ---- ranges
+
+-- an accepted file has at most 64 operations
+pub few-operations : (f : List ℕ) → Accepted f → size (loopOf f) ≤ 64
+few-operations f a = accepted-ok f a .few
+
+-- starts that are sane at a horizon are so at a farther one
+pub sane-more : {l : Loop} {ii h k : ℕ} {xs : List ℕ} → h ≤ k → Sane l ii h xs → Sane l ii k xs
+sane-more m s = record { whole = s .whole; blank = s .blank; near = λ o t e. omega (arith, s .near o t e); fine = s .fine }
+
+-- a board is one at the farthest horizon too
+pub board-far : {f : List ℕ} {ii h : ℕ} {xs rows : List ℕ} → Board f ii h xs rows → Board f ii 4096 xs rows
+board-far b = record {
+  accepted = b .accepted;
+  numbers = record { some = b .numbers .some; short = b .numbers .short; far = omega arith };
+  sane = sane-more (b .numbers .far) (b .sane);
+  held = b .held;
+}
+
+-- a number that is a start is below the horizon
+pub sane-near : {l : Loop} {ii h : ℕ} {xs : List ℕ} → Sane l ii h xs → (o : ℕ) → (getD xs o 65535 ≡ 65535 → ⊥) → getD xs o 65535 < h
+sane-near {xs} s o n = s .near o (getD xs o 65535) (seat-some (getD xs o 65535) n)
+
+-- so every number fits in 16 bits
+pub sane-wide : {l : Loop} {ii h : ℕ} {xs : List ℕ} → Sane l ii h xs → h ≤ 4096 → (o : ℕ) → getD xs o 65535 < 65536
+sane-wide {xs} s m o = pick (ℕ-discrete (getD xs o 65535) 65535)
+  where
+    pick : Dec (getD xs o 65535 ≡ 65535) → getD xs o 65535 < 65536
+    pick (yes e) = omega arith
+    pick (no n) = omega (arith, sane-near s o n)
+
+-- ---- one number changed
+
+-- a list with the start x put in place o says its placing with o at x
+pub put-seats : (xs : List ℕ) (o x : ℕ) → o < length xs → (x ≡ 65535 → ⊥) → seats (set xs o x) ≡ placeAt (seats xs) o x
+put-seats xs o x l n = fun-ext (λ p. go p (ℕ-discrete p o))
+  where
+    go : (p : ℕ) → Dec (p ≡ o) → seats (set xs o x) p ≡ placeAt (seats xs) o x p
+    go p (yes e) = rw (e, getD-set-same xs o x 65535 l, eq-eqb o o refl) (seat-some x n)
+    go p (no d) = rw (getD-set-other xs o p x 65535 d, ne-eqb p o d)
+
+-- and one that has the start t in place o says the placing, with o at t, of the list with that place blank
+pub lift-seats : (xs : List ℕ) (o t : ℕ) → o < length xs → getD xs o 65535 ≡ t → (t ≡ 65535 → ⊥) → seats xs ≡ placeAt (seats (set xs o 65535)) o t
+lift-seats xs o t l q n = fun-ext (λ p. go p (ℕ-discrete p o))
+  where
+    go : (p : ℕ) → Dec (p ≡ o) → seats xs p ≡ placeAt (seats (set xs o 65535)) o t p
+    go p (yes e) = rw (e, q, eq-eqb o o refl) (seat-some t n)
+    go p (no d) = rw (ne-eqb p o d, getD-set-other xs o p 65535 65535 d)
+
+-- in which o is not placed
+pub lift-open : (xs : List ℕ) (o : ℕ) → o < length xs → seats (set xs o 65535) o ≡ none
+lift-open xs o l = seat-none (getD (set xs o 65535) o 65535) (getD-set-same xs o 65535 65535 l)
+
+-- ---- sane starts
+
+-- an operation put in where it fits
+pub put-sane : {l : Loop} {ii h : ℕ} {xs : List ℕ} (o t : ℕ) → Sane l ii h xs → h ≤ 4096 → size l ≤ 64 → o < size l → seats xs o ≡ none → t < h
+    → fitsAt l ii (seats xs) o t ≡ true → Sane l ii h (set xs o t)
+put-sane {l} {ii} {h} {xs} o t s far few inside free near fits = record {
+  whole = length-set xs o t ∙ s .whole;
+  blank = λ p m. getD-set-other xs o p t 65535 (λ e. omega arith) ∙ s .blank p m;
+  near = λ p x e. go p x e (ℕ-discrete p o);
+  fine = ap (legalAt l ii) is ∙ legal-place l ii (seats xs) o t inside free ∙ and-both (legalAt l ii (seats xs)) (fitsAt l ii (seats xs) o t) (s .fine) fits;
+}
+  where
+    is : seats (set xs o t) ≡ placeAt (seats xs) o t
+    is = put-seats xs o t (omega (arith, s .whole)) (λ e. omega arith)
+
+    go : (p x : ℕ) → seats (set xs o t) p ≡ some x → Dec (p ≡ o) → x < h
+    go p x e (yes q) =
+        let y : seats (set xs o t) p ≡ some t = ap (λ (g : Placing). g p) is ∙ ap (λ (k : ℕ). placeAt (seats xs) o t k) q ∙ place-same (seats xs) o t in
+        let z : t ≡ x = cc in
+        omega arith
+    go p x e (no d) = s .near p x (sym (ap seatOf (getD-set-other xs o p t 65535 d)) ∙ e)
+
+-- each number of ys is blank or that of xs
+abbrev pub Fewer : (ys xs : List ℕ) → Type 0
+Fewer ys xs = (o : ℕ) → (getD ys o 65535 ≡ 65535) ⊎ (getD ys o 65535 ≡ getD xs o 65535)
+
+-- the placing is then a part of the other
+pub part-seats : (ys xs : List ℕ) → Fewer ys xs → Part (seats ys) (seats xs)
+part-seats ys xs h = record { same = λ o t e. go o t e (h o) }
+  where
+    go : (o t : ℕ) → seats ys o ≡ some t → (getD ys o 65535 ≡ 65535) ⊎ (getD ys o 65535 ≡ getD xs o 65535) → seats xs o ≡ some t
+    go o t e (inl q) = let y : none ≡ some t = sym (seat-none (getD ys o 65535) q) ∙ e in let z : _≡_ {A = ℕ} 0 1 = cc in absurd (omega arith)
+    go o t e (inr q) = ap seatOf (sym q) ∙ e
+
+-- fewer operations are as sane
+pub part-sane : {l : Loop} {ii h : ℕ} {xs : List ℕ} (ys : List ℕ) → Sane l ii h xs → length ys ≡ 64 → Fewer ys xs → Sane l ii h ys
+part-sane {l} {ii} {h} {xs} ys s whole fewer =
+    let p : Part (seats ys) (seats xs) = part-seats ys xs fewer in
+    record {
+      whole = whole;
+      blank = λ o m. pick o (s .blank o m) (fewer o);
+      near = λ o t e. s .near o t (p .same o t e);
+      fine = legal-part l ii (seats ys) (seats xs) p (s .fine);
+    }
+  where
+    pick : (o : ℕ) → getD xs o 65535 ≡ 65535 → (getD ys o 65535 ≡ 65535) ⊎ (getD ys o 65535 ≡ getD xs o 65535) → getD ys o 65535 ≡ 65535
+    pick o b (inl q) = q
+    pick o b (inr q) = q ∙ b
+
+-- a number made blank
+pub lift-fewer : (xs : List ℕ) (o : ℕ) → Fewer (set xs o 65535) xs
+lift-fewer xs o p = go (ℕ-discrete p o) (decLt o (length xs))
+  where
+    go : Dec (p ≡ o) → Dec (o < length xs) → (getD (set xs o 65535) p 65535 ≡ 65535) ⊎ (getD (set xs o 65535) p 65535 ≡ getD xs p 65535)
+    go (yes e) (yes l) = inl (ap (λ (k : ℕ). getD (set xs o 65535) k 65535) e ∙ getD-set-same xs o 65535 65535 l)
+    go (yes e) (no m) = inr (ap (λ (ys : List ℕ). getD ys p 65535) (set-out xs o 65535 (omega arith)))
+    go (no d) l = inr (getD-set-other xs o p 65535 65535 d)
+
+-- an operation taken out
+pub lift-sane : {l : Loop} {ii h : ℕ} {xs : List ℕ} (o : ℕ) → Sane l ii h xs → Sane l ii h (set xs o 65535)
+lift-sane {xs} o s = part-sane (set xs o 65535) s (length-set xs o 65535 ∙ s .whole) (lift-fewer xs o)
+
+-- ---- boards
+
+-- there is a place for each operation
+pub board-inside : {f : List ℕ} {ii h : ℕ} {xs rows : List ℕ} (o : ℕ) → Board f ii h xs rows → o < size (loopOf f) → o < length xs
+board-inside {f} o b m = omega (arith, few-operations f (b .accepted), b .sane .whole)
+
+-- two tables with the same later rows have as many rows
+pub rest-length : {f : List ℕ} {ii h k : ℕ} {xs rows xs′ rows′ : List ℕ} → Board f ii h xs rows → Board f ii k xs′ rows′ → drop ii rows′ ≡ drop ii rows → length rows′ ≡ length rows
+rest-length {ii} {rows} {rows′} b d e = omega (arith, length-drop ii rows, length-drop ii rows′, ap length e, b .held .long, d .held .long)
+
+-- an operation put in where it fits
+pub put-board : {f : List ℕ} {ii h o t : ℕ} {xs rows xs′ rows′ : List ℕ} → Board f ii h xs rows → o < size (loopOf f) → seats xs o ≡ none → t < h
+    → fitsAt (loopOf f) ii (seats xs) o t ≡ true → IsPut f ii o t xs rows xs′ rows′ → Board f ii h xs′ rows′
+put-board {f} {ii} {h} {o} {t} b inside free near fits p = record {
+  accepted = b .accepted;
+  numbers = b .numbers;
+  sane = rw (p .starts-are) (put-sane o t (b .sane) (b .numbers .far) (few-operations f (b .accepted)) inside free near fits);
+  held = p .held;
+}
+
+-- an operation taken out
+pub lift-board : {f : List ℕ} {ii h o : ℕ} {xs rows xs′ rows′ : List ℕ} → Board f ii h xs rows → IsPut f ii o 65535 xs rows xs′ rows′ → Board f ii h xs′ rows′
+lift-board {o} b p = record {
+  accepted = b .accepted;
+  numbers = b .numbers;
+  sane = rw (p .starts-are) (lift-sane o (b .sane));
+  held = p .held;
+}
+
+-- ---- their rows
+
+-- the rows with all uses of operation o, started at t, put through g
+abbrev pub overOp : (ℕ → ℕ → ℕ) → Loop → (ii o t : ℕ) → List ℕ → List ℕ
+overOp g l ii o t rows = overUses g ii t (opAt l o .uses) (length (opAt l o .uses)) rows
+
+module _ {f : List ℕ} {ii h : ℕ} {xs rows : List ℕ} (o t : ℕ) (b : Board f ii h xs rows) (inside : o < size (loopOf f)) (near : t < h) where
+  module _ (free : seats xs o ≡ none) (fits : fitsAt (loopOf f) ii (seats xs) o t ≡ true) where
+    -- an operation that fits can be reserved
+    pub put-uses : UsesIn 0 rows ii t (opAt (loopOf f) o .uses)
+    put-uses =
+        let ok = accepted-ok f (b .accepted) in
+        reserve-uses (loopOf f) ii (seats xs) o t ok (b .numbers .some) inside free rows (b .held) (legal-digits (loopOf f) ii (seats xs) ok (b .sane .fine))
+        (omega (arith, b .numbers .far)) (fits-conflict (loopOf f) ii (seats xs) o t fits)
+
+    -- and is put in then
+    pub put-is : IsPut f ii o t xs rows (set xs o t) (overOp withBit (loopOf f) ii o t rows)
+    put-is = record {
+      starts-are = refl;
+      held = rw (put-seats xs o t (board-inside o b inside) (λ e. omega (arith, b .numbers .far)))
+          (reserve-place (loopOf f) ii (seats xs) o t (accepted-ok f (b .accepted)) (b .numbers .some) inside free rows (b .held));
+      rest = uses-rest withBit ii t (opAt (loopOf f) o .uses) (length (opAt (loopOf f) o .uses)) rows (b .numbers .some);
+    }
+
+  module _ (there : getD xs o 65535 ≡ t) where
+    -- the table with the operation, by the starts without it
+    lift-held : IsTable 2 ii (cellsOf (loopOf f) ii (placeAt (seats (set xs o 65535)) o t)) rows
+    lift-held = rw (← lift-seats xs o t (board-inside o b inside) there (λ e. omega (arith, b .numbers .far))) (b .held)
+
+    -- an operation that is placed can be released
+    pub lift-uses : UsesIn 1 rows ii t (opAt (loopOf f) o .uses)
+    lift-uses =
+        let ok = accepted-ok f (b .accepted) in
+        release-uses (loopOf f) ii (seats (set xs o 65535)) o t ok (b .numbers .some) inside (lift-open xs o (board-inside o b inside)) (omega (arith, b .numbers .far)) rows lift-held
+        (rw (← lift-seats xs o t (board-inside o b inside) there (λ e. omega (arith, b .numbers .far))) (legal-digits (loopOf f) ii (seats xs) ok (b .sane .fine)))
+
+    -- and is taken out then
+    pub lift-is : IsPut f ii o 65535 xs rows (set xs o 65535) (overOp lessBit (loopOf f) ii o t rows)
+    lift-is = record {
+      starts-are = refl;
+      held = release-place (loopOf f) ii (seats (set xs o 65535)) o t (accepted-ok f (b .accepted)) (b .numbers .some) inside (lift-open xs o (board-inside o b inside)) rows lift-held;
+      rest = uses-rest lessBit ii t (opAt (loopOf f) o .uses) (length (opAt (loopOf f) o .uses)) rows (b .numbers .some);
+    }

@@ -1,0 +1,132 @@
+-- What placing and removing come to: from the checks and the leaf to `Did`. Assumes nothing.
+use mathlib.Core.Path.{_≡_, refl, sym, ap, _∙_, subst}
+use mathlib.Core.Bool.{true, false}
+use mathlib.Core.List.{List}
+use mathlib.Core.Option.{Option, none, some}
+use Prim.Native.Nat.{ℕ, _<_}
+use native.Mathlib.Decide.{ℕ-discrete}
+use native.Mathlib.Omega.{arith}
+use borrow.Author.Tests.{leb-false, not-false}
+use lib.ListN.{length, getD, set, drop}
+use Rattle.model.specs.Lists.{upFrom, any}
+use Rattle.model.specs.Refusals.{Refusal, firstRefusal, Answer, answered, refused}
+use Rattle.model.specs.Loop.{size, depAt}
+use Rattle.model.specs.File.{loopOf}
+use Rattle.model.specs.Legality.{Placing, breaks, fitsAt}
+use Rattle.model.specs.Session.{State, Call, place, remove, Reply, isPlaced, firstBroken, breach, checks, effect, step}
+use Rattle.model.proofs.Lists.{and-both, false-not, none-first}
+use Rattle.model.proofs.Checks.{passes-head, passes-tail, passes-left, passes-right}
+use Rattle.model.proofs.Session.{step-refused, step-done}
+use Rattle.reservation.specs.Seats.{seats}
+use Rattle.reservation.proofs.Seats.{seat-none, seat-some}
+use Rattle.reservation.proofs.Placings.{conflicts, fits-tests}
+use Rattle.board.specs.Board.{setupAs, bare, startsOf, Board, IsPut}
+use Rattle.board.specs.Moves.{replyOf, Did}
+use Rattle.board.specs.declared.Reply as declared
+use Rattle.board.specs.declared.Reply.the-variants as reply
+use Rattle.board.proofs.Readings.{starts-at, starts-set}
+use Rattle.board.proofs.Boards.{put-board, lift-board, sane-near}
+use Rattle.board.proofs.Refusing.{common, same-seats, known-inside, known-near, known-open}
+
+-- a number that is not a start is the blank
+pub blank-is : (xs : List ℕ) (o : ℕ) → seats xs o ≡ none → getD xs o 65535 ≡ 65535
+blank-is xs o e = pick (ℕ-discrete (getD xs o 65535) 65535)
+  where
+    pick : Dec (getD xs o 65535 ≡ 65535) → getD xs o 65535 ≡ 65535
+    pick (yes q) = q
+    pick (no n) = let z : some (getD xs o 65535) ≡ none = sym (seat-some (getD xs o 65535) n) ∙ e in let y : _≡_ {A = ℕ} 0 1 = cc in absurd (omega arith)
+
+-- where the check of the dependences passes there is no broken one
+pub no-breach : (x : Option ℕ) → breach x .fails ≡ false → x ≡ none
+no-breach none q = refl
+no-breach (some e) q = let y : _≡_ {A = ℕ} 0 1 = cc in absurd (omega arith)
+
+-- no answer is a refusal too
+pub done-kept : {X : Type 0} (r : Reply) (x : Refusal) → answered r ≡ refused x → X
+done-kept r x e = let y : _≡_ {A = ℕ} 0 1 = cc in absurd (omega arith)
+
+module _ {f : List ℕ} {ii h : ℕ} {xs rows : List ℕ} (b : Board f ii h xs rows) where
+  -- a refused call leaves all as it was
+  pub did-refused : (c : Call) (n d : ℕ) → firstRefusal (checks (setupAs f ii h) c (bare f xs)) ≡ some (record { number = n; detail = d }) → Did c f ii h xs rows xs rows (reply.Refused n d)
+  did-refused c n d e =
+      let s : step (setupAs f ii h) c (bare f xs) ≡ (bare f xs, refused (record { number = n; detail = d })) = step-refused (setupAs f ii h) c (bare f xs) (record { number = n; detail = d }) e in
+      record {
+        reply = sym (ap (λ (p : State × Answer Reply). p .1) s);
+        starts-are = sym (ap (λ (p : State × Answer Reply). p .0 .starts) s);
+        board = b;
+        rest = refl;
+        kept = λ x q. (refl, refl);
+      }
+
+  -- a call that is done: its effect is that of the model
+  pub did-done : (c : Call) (r : declared.Reply) {xs′ rows′ : List ℕ} → firstRefusal (checks (setupAs f ii h) c (bare f xs)) ≡ none
+      → replyOf r ≡ answered (effect (setupAs f ii h) c (bare f xs) .1) → startsOf (size (loopOf f)) xs′ ≡ effect (setupAs f ii h) c (bare f xs) .0 .starts
+      → Board f ii h xs′ rows′ → drop ii rows′ ≡ drop ii rows → Did c f ii h xs rows xs′ rows′ r
+  did-done c r e p q b′ k =
+      let s = step-done (setupAs f ii h) c (bare f xs) e in
+      record {
+        reply = p ∙ sym (ap (λ (p : State × Answer Reply). p .1) s);
+        starts-are = q ∙ sym (ap (λ (p : State × Answer Reply). p .0 .starts) s);
+        board = b′;
+        rest = k;
+        kept = λ x z. done-kept _ x (sym p ∙ z);
+      }
+
+  module _ (o t : ℕ) (fine : firstRefusal (checks (setupAs f ii h) (place o t) (bare f xs)) ≡ none) where
+    -- the checks that forcing has too
+    known : firstRefusal (common f h o t xs) ≡ none
+    known = passes-left (common f h o t xs) _ fine
+
+    -- the operation is there, not placed, and its start below the horizon
+    pub place-inside : o < size (loopOf f)
+    place-inside = known-inside f h o t xs known
+
+    pub place-open : seats xs o ≡ none
+    place-open = known-open f h o t xs known
+
+    pub place-near : t < h
+    place-near = known-near f h o t xs known
+
+    -- it fits
+    pub place-fits : fitsAt (loopOf f) ii (seats xs) o t ≡ true
+    unfolding firstBroken
+    place-fits =
+        let later = passes-right (common f h o t xs) _ fine in
+        fits-tests (loopOf f) ii (seats xs) o t
+        ∙ and-both _ _
+        (false-not _
+        (subst (λ (g : Placing). any (λ e. breaks ii g o t (depAt (loopOf f) e)) (upFrom 0 (length (loopOf f .deps))) ≡ false) (same-seats f ii h xs rows b o t) (none-first _ _ (no-breach _ (passes-head _ _ later)))))
+        (false-not _ (subst (λ (g : Placing). conflicts (loopOf f) ii g o t ≡ false) (same-seats f ii h xs rows b o t) (passes-head _ _ (passes-tail _ _ later))))
+
+    -- placed
+    pub did-place : {xs′ rows′ : List ℕ} → IsPut f ii o t xs rows xs′ rows′ → Did (place o t) f ii h xs rows xs′ rows′ reply.Done
+    did-place p =
+        did-done (place o t) reply.Done fine refl
+        (ap (startsOf (size (loopOf f))) (p .starts-are) ∙ starts-set (size (loopOf f)) xs o t ∙ ap (set (startsOf (size (loopOf f)) xs) o) (seat-some t (λ e. omega (arith, place-near, b .numbers .far))))
+        (put-board b place-inside place-open place-near place-fits p) (p .rest)
+
+  module _ (o : ℕ) (fine : firstRefusal (checks (setupAs f ii h) (remove o) (bare f xs)) ≡ none) where
+    -- the operation is there
+    pub remove-inside : o < size (loopOf f)
+    remove-inside = leb-false _ _ (passes-head _ _ fine)
+
+    -- and placed
+    pub remove-placed : getD xs o 65535 < 65535
+    remove-placed = pick (ℕ-discrete (getD xs o 65535) 65535)
+      where
+        placed : isPlaced (getD (bare f xs .starts) o none) ≡ true
+        placed = not-false _ (passes-head _ _ (passes-tail _ _ fine))
+
+        pick : Dec (getD xs o 65535 ≡ 65535) → getD xs o 65535 < 65535
+        pick (yes q) =
+            let z : getD (bare f xs .starts) o none ≡ none = starts-at (size (loopOf f)) xs o remove-inside ∙ seat-none (getD xs o 65535) q in
+            let y : isPlaced none ≡ true = sym (ap isPlaced z) ∙ placed in
+            let w : _≡_ {A = ℕ} 0 1 = cc in absurd (omega arith)
+        pick (no n) = omega (arith, sane-near (b .sane) o n, b .numbers .far)
+
+    -- removed
+    pub did-remove : {xs′ rows′ : List ℕ} → IsPut f ii o 65535 xs rows xs′ rows′ → Did (remove o) f ii h xs rows xs′ rows′ reply.Done
+    did-remove p =
+        did-done (remove o) reply.Done fine refl
+        (ap (startsOf (size (loopOf f))) (p .starts-are) ∙ starts-set (size (loopOf f)) xs o 65535)
+        (lift-board b p) (p .rest)

@@ -1,0 +1,239 @@
+-- What each call is refused for, check by check, off the array of a session. Assumes nothing.
+use mathlib.Core.Path.{_≡_, refl, sym, ap, _∙_, fun-ext}
+use mathlib.Core.Bool.{Bool, true, false}
+use mathlib.Core.List.{List, [], _∷_}
+use mathlib.Core.Option.{Option, none, some}
+use Prim.Native.Nat.{ℕ, _≤_, _<_}
+use native.Mathlib.Omega.{arith}
+use borrow.Author.Tests.{le-leb, lt-leb, lt-ltb, le-ltb, leb-false}
+use lib.Dec.{ltb}
+use lib.ListN.{getD, replicate}
+use Rattle.model.specs.Refusals.{Refusal, Check, check, firstRefusal}
+use Rattle.model.specs.Loop.{size, opAt, LoopOk}
+use Rattle.model.specs.File.{loopOf, Accepted, fileChecks}
+use Rattle.model.specs.Legality.{Placing, selfConflict}
+use Rattle.model.specs.Search.{outside}
+use Rattle.model.specs.Session.{placedIn, isPlaced, absent, taken, late, firstBroken, breach, nowhere, checks, place, force, remove, openChecks}
+use Rattle.model.proofs.Lists.{getD-filled}
+use Rattle.model.proofs.File.{accepted-ok}
+use Rattle.model.proofs.Checks.{refusal-append, refusal-early, passes-head, passes-tail}
+use Rattle.reservation.specs.Place.{firstTaken}
+use Rattle.reservation.specs.Seats.{seatOf, seats, firstBreach}
+use Rattle.reservation.proofs.Seats.{seat-none, seat-some}
+use Rattle.reservation.proofs.Placings.{conflicts, legal-digits, free-conflict, conflict-free}
+use Rattle.board.specs.Board.{setupAs, bare, Board}
+use Rattle.board.proofs.Readings.{starts-at, seats-are}
+
+-- ---- an operation, and its start
+
+module _ (f xs : List ℕ) (o : ℕ) (inside : o < size (loopOf f)) where
+  -- whether the operation is placed, off the array
+  not-there : getD xs o 65535 ≡ 65535 → getD (bare f xs .starts) o none ≡ none
+  not-there e = starts-at (size (loopOf f)) xs o inside ∙ seat-none (getD xs o 65535) e
+
+  there : (getD xs o 65535 ≡ 65535 → ⊥) → isPlaced (getD (bare f xs .starts) o none) ≡ true
+  there n = rw (starts-at (size (loopOf f)) xs o inside, seat-some (getD xs o 65535) n)
+
+-- the checks that placing and forcing have in common
+abbrev pub common : List ℕ → (h o t : ℕ) → List ℕ → List Check
+common f h o t xs = absent (setupAs f 0 h) o ∷ taken (bare f xs) o ∷ late (setupAs f 0 h) o t ∷ []
+
+module _ (f : List ℕ) (h o t : ℕ) (xs : List ℕ) where
+  -- no such operation
+  pub no-such : (rest : List Check) → size (loopOf f) ≤ o → firstRefusal (absent (setupAs f 0 h) o ∷ rest) ≡ some (record { number = 12; detail = o })
+  unfolding firstRefusal
+  no-such rest l = rw (le-leb _ _ l)
+
+  -- it is placed
+  pub is-taken : o < size (loopOf f) → (getD xs o 65535 ≡ 65535 → ⊥) → firstRefusal (common f h o t xs) ≡ some (record { number = 13; detail = o })
+  unfolding firstRefusal
+  is-taken l n = rw (lt-leb _ _ l, there f xs o l n)
+
+  -- the start is not below the horizon
+  pub is-late : o < size (loopOf f) → getD xs o 65535 ≡ 65535 → h ≤ t → firstRefusal (common f h o t xs) ≡ some (record { number = 15; detail = o })
+  unfolding firstRefusal
+  is-late l e k = rw (lt-leb _ _ l, not-there f xs o l e, le-leb _ _ k)
+
+  -- nothing against it so far
+  pub is-known : o < size (loopOf f) → getD xs o 65535 ≡ 65535 → t < h → firstRefusal (common f h o t xs) ≡ none
+  unfolding firstRefusal
+  is-known l e k = rw (lt-leb _ _ l, not-there f xs o l e, lt-leb _ _ k)
+
+  -- it is not placed, and is to be removed
+  pub is-free : o < size (loopOf f) → getD xs o 65535 ≡ 65535 → firstRefusal (checks (setupAs f 0 0) (remove o) (bare f xs)) ≡ some (record { number = 14; detail = o })
+  unfolding firstRefusal
+  is-free l e = rw (lt-leb _ _ l, not-there f xs o l e)
+
+  -- it can be removed
+  pub is-there : o < size (loopOf f) → (getD xs o 65535 ≡ 65535 → ⊥) → firstRefusal (checks (setupAs f 0 0) (remove o) (bare f xs)) ≡ none
+  unfolding firstRefusal
+  is-there l n = rw (lt-leb _ _ l, there f xs o l n)
+
+  -- ---- what the common checks tell
+
+  -- the operation is there
+  pub known-inside : firstRefusal (common f h o t xs) ≡ none → o < size (loopOf f)
+  known-inside e = leb-false _ _ (passes-head _ _ e)
+
+  -- its start is below the horizon
+  pub known-near : firstRefusal (common f h o t xs) ≡ none → t < h
+  known-near e = leb-false _ _ (passes-head _ _ (passes-tail _ _ (passes-tail _ _ e)))
+
+  -- it is not placed
+  pub known-open : firstRefusal (common f h o t xs) ≡ none → seats xs o ≡ none
+  known-open e = sym (starts-at (size (loopOf f)) xs o (known-inside e)) ∙ pick _ (passes-head _ _ (passes-tail _ _ e))
+    where
+      pick : (x : Option ℕ) → isPlaced x ≡ false → x ≡ none
+      pick none q = refl
+      pick (some a) q = let z : _≡_ {A = ℕ} 0 1 = cc in absurd (omega arith)
+
+-- ---- dependences, then conflicts
+
+-- a dependence is broken: the first is the detail
+broken-first : (x : Option ℕ) (e : ℕ) (rest : List Check) → x ≡ some e → firstRefusal (breach x ∷ rest) ≡ some (record { number = 16; detail = e })
+unfolding firstRefusal
+broken-first x e rest q = rw q
+
+-- none is: the other checks decide
+none-broken : (x : Option ℕ) (rest : List Check) → x ≡ none → firstRefusal (breach x ∷ rest) ≡ firstRefusal rest
+unfolding firstRefusal
+none-broken x rest q = rw q
+
+-- a conflict, and none
+conflict-last : (b : Bool) → b ≡ true → firstRefusal (check b 17 0 ∷ []) ≡ some (record { number = 17; detail = 0 })
+unfolding firstRefusal
+conflict-last b q = rw q
+
+none-last : (b : Bool) → b ≡ false → firstRefusal (check b 17 0 ∷ []) ≡ none
+unfolding firstRefusal
+none-last b q = rw q
+
+-- the model's first broken dependence is the one that the walk finds
+same-broken : (f : List ℕ) (ii h o t : ℕ) (g g′ : Placing) → g ≡ g′ → firstBroken (setupAs f ii h) g o t ≡ firstBreach (loopOf f) ii g′ o t
+unfolding firstBroken firstBreach
+same-broken f ii h o t g g′ e = rw e
+
+-- an empty array places nothing
+blank-nowhere : (n : ℕ) → seats (replicate n 65535) ≡ nowhere
+blank-nowhere n = fun-ext (λ o. ap seatOf (getD-filled n o 65535))
+
+-- ---- placing
+
+module _ (f : List ℕ) (ii h : ℕ) (xs rows : List ℕ) (b : Board f ii h xs rows) (o t : ℕ) where
+  -- the model's placing is the array's
+  pub same-seats : placedIn (bare f xs .starts) ≡ seats xs
+  same-seats = seats-are (size (loopOf f)) xs (omega (arith, accepted-ok f (b .accepted) .few, b .sane .whole)) (b .sane .blank)
+
+  -- the checks after the common ones
+  abbrev later : List Check
+  later =
+      breach (firstBroken (setupAs f ii h) (placedIn (bare f xs .starts)) o t)
+      ∷ check (conflicts (loopOf f) ii (placedIn (bare f xs .starts)) o t) 17 0
+      ∷ []
+
+  -- a refusal by the common ones
+  pub place-early : (r : Refusal) → firstRefusal (common f h o t xs) ≡ some r → firstRefusal (checks (setupAs f ii h) (place o t) (bare f xs)) ≡ some r
+  place-early r e = refusal-early (common f h o t xs) later r e
+
+  module _ (known : firstRefusal (common f h o t xs) ≡ none) where
+    -- by a broken dependence
+    pub place-broken : (e : ℕ) → firstBreach (loopOf f) ii (seats xs) o t ≡ some e
+        → firstRefusal (checks (setupAs f ii h) (place o t) (bare f xs)) ≡ some (record { number = 16; detail = e })
+    place-broken e q = refusal-append (common f h o t xs) later known ∙ broken-first _ e _ (same-broken f ii h o t _ _ same-seats ∙ q)
+
+    module _ (held : firstBreach (loopOf f) ii (seats xs) o t ≡ none) where
+      -- the conflicts decide
+      place-held : firstRefusal (checks (setupAs f ii h) (place o t) (bare f xs)) ≡ firstRefusal (check (conflicts (loopOf f) ii (seats xs) o t) 17 0 ∷ [])
+      place-held =
+          refusal-append (common f h o t xs) later known ∙ none-broken _ _ (same-broken f ii h o t _ _ same-seats ∙ held)
+          ∙ ap (λ (g : Placing). firstRefusal (check (conflicts (loopOf f) ii g o t) 17 0 ∷ [])) same-seats
+
+      -- nothing is taken
+      pub place-fine : firstTaken ii rows t (opAt (loopOf f) o .uses) ≡ none → firstRefusal (checks (setupAs f ii h) (place o t) (bare f xs)) ≡ none
+      place-fine e =
+          let ok : LoopOk (loopOf f) = accepted-ok f (b .accepted) in
+          place-held
+          ∙ none-last _
+          (free-conflict (loopOf f) ii (seats xs) o t ok (b .numbers .some) (known-inside f h o t xs known) (known-open f h o t xs known) rows (b .held)
+          (legal-digits (loopOf f) ii (seats xs) ok (b .sane .fine)) e)
+
+      -- something is
+      pub place-clash : (firstTaken ii rows t (opAt (loopOf f) o .uses) ≡ none → ⊥)
+          → firstRefusal (checks (setupAs f ii h) (place o t) (bare f xs)) ≡ some (record { number = 17; detail = 0 })
+      place-clash n = place-held ∙ conflict-last _ (pick (conflicts (loopOf f) ii (seats xs) o t) refl)
+        where
+          ok : LoopOk (loopOf f)
+          ok = accepted-ok f (b .accepted)
+
+          pick : (c : Bool) → conflicts (loopOf f) ii (seats xs) o t ≡ c → c ≡ true
+          pick true q = refl
+          pick false q =
+              absurd
+              (n (conflict-free (loopOf f) ii (seats xs) o t ok (b .numbers .some) (known-inside f h o t xs known) (known-open f h o t xs known) rows (b .held)
+              (legal-digits (loopOf f) ii (seats xs) ok (b .sane .fine)) q))
+
+-- ---- forcing
+
+module _ (f : List ℕ) (ii h : ℕ) (xs : List ℕ) (o t : ℕ) where
+  abbrev own : List Check
+  own = breach (firstBroken (setupAs f ii h) nowhere o t) ∷ check (selfConflict ii (opAt (loopOf f) o)) 17 0 ∷ []
+
+  -- a refusal by the common checks
+  pub force-early : (r : Refusal) → firstRefusal (common f h o t xs) ≡ some r → firstRefusal (checks (setupAs f ii h) (force o t) (bare f xs)) ≡ some r
+  force-early r e = refusal-early (common f h o t xs) own r e
+
+  module _ (known : firstRefusal (common f h o t xs) ≡ none) (n : ℕ) where
+    -- by a dependence of the operation with itself
+    pub force-broken : (e : ℕ) → firstBreach (loopOf f) ii (seats (replicate n 65535)) o t ≡ some e
+        → firstRefusal (checks (setupAs f ii h) (force o t) (bare f xs)) ≡ some (record { number = 16; detail = e })
+    force-broken e q = refusal-append (common f h o t xs) own known ∙ broken-first _ e _ (same-broken f ii h o t _ _ (sym (blank-nowhere n)) ∙ q)
+
+    module _ (held : firstBreach (loopOf f) ii (seats (replicate n 65535)) o t ≡ none) where
+      force-held : firstRefusal (checks (setupAs f ii h) (force o t) (bare f xs)) ≡ firstRefusal (check (selfConflict ii (opAt (loopOf f) o)) 17 0 ∷ [])
+      force-held = refusal-append (common f h o t xs) own known ∙ none-broken _ _ (same-broken f ii h o t _ _ (sym (blank-nowhere n)) ∙ held)
+
+      -- by a use that is longer than the interval
+      pub force-clash : selfConflict ii (opAt (loopOf f) o) ≡ true → firstRefusal (checks (setupAs f ii h) (force o t) (bare f xs)) ≡ some (record { number = 17; detail = 0 })
+      force-clash e = force-held ∙ conflict-last _ e
+
+      -- nothing is against it
+      pub force-fine : selfConflict ii (opAt (loopOf f) o) ≡ false → firstRefusal (checks (setupAs f ii h) (force o t) (bare f xs)) ≡ none
+      force-fine e = force-held ∙ none-last _ e
+
+-- ---- opening
+
+module _ (f : List ℕ) (ii h rows : ℕ) where
+  -- the checks after the reader's
+  abbrev pub numbers : List Check
+  numbers = check (outside 4096 ii) 7 1 ∷ check (outside 4096 h) 7 2 ∷ check (ltb rows ii) 20 rows ∷ []
+
+  -- the reader's refusal
+  pub open-early : (r : Refusal) → firstRefusal (fileChecks f) ≡ some r → firstRefusal (openChecks f ii h rows) ≡ some r
+  unfolding openChecks
+  open-early r e = refusal-early (fileChecks f) numbers r e
+
+  module _ (a : Accepted f) where
+    -- on an accepted file the numbers decide
+    pub open-later : firstRefusal (openChecks f ii h rows) ≡ firstRefusal numbers
+    unfolding openChecks
+    open-later = refusal-append (fileChecks f) numbers a
+
+    -- the interval
+    pub open-interval : outside 4096 ii ≡ true → firstRefusal (openChecks f ii h rows) ≡ some (record { number = 7; detail = 1 })
+    unfolding firstRefusal
+    open-interval e = open-later ∙ rw e
+
+    -- the horizon
+    pub open-horizon : outside 4096 ii ≡ false → outside 4096 h ≡ true → firstRefusal (openChecks f ii h rows) ≡ some (record { number = 7; detail = 2 })
+    unfolding firstRefusal
+    open-horizon e d = open-later ∙ rw (e, d)
+
+    -- the table
+    pub open-rows : outside 4096 ii ≡ false → outside 4096 h ≡ false → rows < ii → firstRefusal (openChecks f ii h rows) ≡ some (record { number = 20; detail = rows })
+    unfolding firstRefusal
+    open-rows e d l = open-later ∙ rw (e, d, lt-ltb _ _ l)
+
+    -- nothing is against it
+    pub open-fine : outside 4096 ii ≡ false → outside 4096 h ≡ false → ii ≤ rows → firstRefusal (openChecks f ii h rows) ≡ none
+    unfolding firstRefusal
+    open-fine e d l = open-later ∙ rw (e, d, le-ltb _ _ l)

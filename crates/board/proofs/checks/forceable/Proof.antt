@@ -1,0 +1,106 @@
+-- `checks::forceable` meets its contract: one law of `Refusing` for each return. Assumes nothing.
+use mathlib.Core.Path.{_≡_, sym, ap, _∙_}
+use mathlib.Core.Option.{none}
+use Prim.Native.Nat.{ℕ}
+use native.Mathlib.Omega.{arith}
+use borrow.Author.Needs.{needs}
+use lib.ListN.{replicate, length-replicate}
+use Rattle.model.specs.Refusals.{firstRefusal}
+use Rattle.model.specs.File.{loopOf}
+use Rattle.model.proofs.File.{accepted-ok}
+use Rattle.reservation.specs.Seats.{seats, brokenOf, firstBreach}
+use Rattle.board.specs.Checks.{refusalOf}
+use Rattle.board.proofs.Refusing.{common, known-inside, known-near, force-early, force-broken, force-clash, force-fine}
+use Rattle.board.proofs.checks.forceable.Statement.{statement}
+use Rattle.board.proofs.checks.forceable.Tie as tie
+
+known-requires : tie.Need-known-requires
+known-requires c κs = c .before .pre .2
+
+enum-told : tie.Need-enum-told
+enum-told c = search needs
+
+enum-told-2 : tie.Need-enum-told-2
+enum-told-2 c = search needs
+
+abbrev start : tie.After-known → tie.Start
+start c = c .before .before
+
+returns : tie.Need-returns
+returns c =
+    let k = c .before .before in
+    let a = start k .args in
+    let e = c .enum-told2 .given .1 in
+    ap refusalOf e ∙ sym (force-early (a .file .now) (a .interval) (a .horizon) (a .starts .now) (a .op) (a .start) _ (sym (k .known .ensures) ∙ ap refusalOf e))
+
+-- nothing against it so far
+known-is : (c : tie.After-enum-told) → let a = start (c .before .before) .args in firstRefusal (common (a .file .now) (a .horizon) (a .op) (a .start) (a .starts .now)) ≡ none
+known-is c = sym (c .before .before .known .ensures) ∙ ap refusalOf (c .enum-told .given .1)
+
+slice-aggregate-first-broken : tie.Need-slice-aggregate-first-broken
+slice-aggregate-first-broken c = search needs
+
+first-broken-requires : tie.Need-first-broken-requires
+first-broken-requires c κs =
+    let k = c .before .before .before in
+    let a = start k .args in
+    let p = start k .pre in
+    (p .0, omega (arith, known-near (a .file .now) (a .horizon) (a .op) (a .start) (a .starts .now) (known-is (c .before)), p .1 .far), p .1 .short, rw (length-replicate {A = ℕ} 64 65535) (accepted-ok (a .file .now) (p .0) .few))
+
+enum-known-broken : tie.Need-enum-known-broken
+enum-known-broken c = search needs
+
+returns-2 : tie.Need-returns-2
+returns-2 c =
+    let b = c .before in
+    let w = b .before .before in
+    let t = w .before .before in
+    let a = start (t .before .before) .args in
+    sym (force-broken (a .file .now) (a .interval) (a .horizon) (a .starts .now) (a .op) (a .start) (known-is t) 64 _ (sym (w .first-broken .ensures) ∙ ap brokenOf (b .broken .given .1)))
+
+enum-told-3 : tie.Need-enum-told-3
+enum-told-3 c = search needs
+
+-- no dependence of the operation with itself is broken
+held-is : (c : tie.After-enum-told3) → let a = start (c .before .before .before .before .before .before) .args in firstBreach (loopOf (a .file .now)) (a .interval) (seats (replicate 64 65535)) (a .op) (a .start) ≡ none
+held-is c = sym (c .before .before .first-broken .ensures) ∙ ap brokenOf (c .enum-told3 .given .1)
+
+too-long-requires : tie.Need-too-long-requires
+too-long-requires c κs =
+    let t = c .before .before .before .before in
+    let k = t .before .before in
+    let a = start k .args in
+    (start k .pre .0, known-inside (a .file .now) (a .horizon) (a .op) (a .start) (a .starts .now) (known-is t))
+
+returns-3 : tie.Need-returns-3
+returns-3 c =
+    let f = c .before in
+    let h = f .before in
+    let t = h .before .before .before .before in
+    let a = start (t .before .before) .args in
+    sym (force-clash (a .file .now) (a .interval) (a .horizon) (a .starts .now) (a .op) (a .start) (known-is t) 64 (held-is h) (sym (f .too-long .ensures) ∙ c .if1 .taken))
+
+returns-4 : tie.Need-returns-4
+returns-4 c =
+    let f = c .before in
+    let h = f .before in
+    let t = h .before .before .before .before in
+    let a = start (t .before .before) .args in
+    sym (force-fine (a .file .now) (a .interval) (a .horizon) (a .starts .now) (a .op) (a .start) (known-is t) 64 (held-is h) (sym (f .too-long .ensures) ∙ c .if1 .left))
+
+pub forceable-spec : {M : Type 1} → statement M
+forceable-spec =
+    tie.close
+    (tie.spec
+    known-requires
+    enum-told
+    enum-told-2
+    returns
+    slice-aggregate-first-broken
+    first-broken-requires
+    enum-known-broken
+    returns-2
+    enum-told-3
+    too-long-requires
+    returns-3
+    returns-4)

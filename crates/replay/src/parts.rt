@@ -1,0 +1,79 @@
+// A call by number, made on the parts of a session where they stand: a session has 4 KB, and a caller that makes many calls need not hand it over for each. Internal: the six calls of `session` say the same of a whole session.
+use board::Reply;
+use board::moves;
+ghost use mathlib.Core.Path.{_≡_};
+ghost use Rattle.replay.specs.Parts.{Ready, Turned};
+
+// How many checkpoints are open after a call, and its answer.
+pub struct Turn {
+    pub marks: usize,
+    pub reply: Reply,
+}
+
+// Makes the call of a kind: 1 place(a, b), 2 force(a, b), 3 remove(a), 4 checkpoint, 5 release, 6 rollback(a). `wanted` are the starts of checkpoint a, where it is open. Where there are
+// more checkpoints afterwards, the caller has to keep the starts as those of the new one.
+pub fn make(
+    store: &[u8],
+    length_: usize,
+    interval: usize,
+    horizon: usize,
+    marks: usize,
+    kind: u64,
+    a: usize,
+    b: usize,
+    wanted: &[u16; 64],
+    starts: &mut [u16; 64],
+    rows: &mut [u64],
+) -> Turn
+    requires { ⌜ Ready (now store) «length_» interval horizon marks a (now wanted) (now starts) (now rows) ⌝ }
+    ensures { λ r. ⌜ Turned (now (store .entry)) «length_» interval horizon marks kind a b (now (wanted .entry)) (now (starts .entry)) (now (rows .entry)) (now (starts .exit)) (now (rows .exit)) (r .marks) (r .reply) ⌝ }
+{
+    if kind == 1 {
+        return told(
+            marks,
+            moves::place(store, length_, interval, horizon, a, b, starts, rows),
+        );
+    }
+    if kind == 2 {
+        return told(
+            marks,
+            moves::force(store, length_, interval, horizon, a, b, starts, rows),
+        );
+    }
+    if kind == 3 {
+        return told(
+            marks,
+            moves::remove(store, length_, interval, a, starts, rows),
+        );
+    }
+    if kind == 4 {
+        if 16 <= marks {
+            return told(marks, Reply::Refused(18, 0));
+        }
+        return told(marks + 1, Reply::Numbered(marks + 1));
+    }
+    if kind == 5 {
+        if marks == 0 {
+            return told(marks, Reply::Refused(19, 0));
+        }
+        return told(marks - 1, Reply::Done);
+    }
+    if a == 0 {
+        return told(marks, Reply::Refused(19, 0));
+    }
+    if marks < a {
+        return told(marks, Reply::Refused(19, 0));
+    }
+    moves::restore(store, length_, interval, wanted, starts, rows);
+    told(a, Reply::Done)
+}
+
+// Both as one.
+fn told(marks: usize, reply: Reply) -> Turn
+    ensures { λ r. ⌜ r ≡ record { marks = marks; reply = reply } ⌝ }
+{
+    Turn {
+        marks: marks,
+        reply: reply,
+    }
+}
