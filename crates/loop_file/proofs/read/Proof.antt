@@ -4,7 +4,6 @@ use mathlib.Core.List.{List, _++_}
 use mathlib.Core.Option.{none, some}
 use Prim.Native.Nat.{ℕ, _/_, _≤_}
 use native.Mathlib.Omega.{arith}
-use borrow.Author.Needs.{needs}
 use borrow.Author.Tests.{ltb-false}
 use lib.ListN.{length}
 use Rattle.model.specs.Refusals.{firstRefusal, Answer, answered}
@@ -31,16 +30,16 @@ unfolding lengthChecks
 long f e = ltb-false (length f) 26 (or-false-left _ _ (passes-head _ _ (passes-left (lengthChecks f) (headChecks f) e)))
 
 head-requires : tie.Need-head-requires
-head-requires c κs = search needs
+head-requires c κs = omega arith
 
 enum-told : tie.Need-enum-told
-enum-told c = search needs
+enum-told c = omega arith
 
 enum-told-2 : tie.Need-enum-told-2
-enum-told-2 c = search needs
+enum-told-2 c = omega arith
 
 passed-on-requires : tie.Need-passed-on-requires
-passed-on-requires c κs = search needs
+passed-on-requires c κs = omega arith
 
 -- the file
 abbrev file : tie.After-head → List ℕ
@@ -64,13 +63,13 @@ contents-requires : tie.Need-contents-requires
 contents-requires c κs = long (file (headOf c)) (head-passed c)
 
 enum-told-3 : tie.Need-enum-told-3
-enum-told-3 c = search needs
+enum-told-3 c = omega arith
 
 enum-told-4 : tie.Need-enum-told-4
-enum-told-4 c = search needs
+enum-told-4 c = omega arith
 
 passed-on-requires-2 : tie.Need-passed-on-requires-2
-passed-on-requires-2 c κs = search needs
+passed-on-requires-2 c κs = omega arith
 
 returns-2 : tie.Need-returns-2
 returns-2 c =
@@ -94,13 +93,13 @@ bodies-requires : tie.Need-bodies-requires
 bodies-requires c κs = (long (fileOf c) (head-passed (before c)), contents-passed c)
 
 enum-known-third : tie.Need-enum-known-third
-enum-known-third c = search needs
+enum-known-third c = omega arith
 
 enum-told-5 : tie.Need-enum-told-5
-enum-told-5 c = search needs
+enum-told-5 c = omega arith
 
 passed-on-requires-3 : tie.Need-passed-on-requires-3
-passed-on-requires-3 c κs = search needs
+passed-on-requires-3 c κs = omega arith
 
 returns-3 : tie.Need-returns-3
 returns-3 c =

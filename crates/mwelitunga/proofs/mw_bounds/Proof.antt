@@ -1,24 +1,24 @@
 -- `mw_bounds` meets its contract: what the bounds say, in numbers. Assumes nothing.
 use mathlib.Core.Path.{refl}
-use borrow.Author.Needs.{needs}
+use native.Mathlib.Omega.{arith}
 use Rattle.mwelitunga.proofs.Told.{bounds-told}
 use Rattle.mwelitunga.proofs.mw_bounds.Statement.{statement}
 use Rattle.mwelitunga.proofs.mw_bounds.Tie as tie
 
 bounds-requires : tie.Need-bounds-requires
-bounds-requires c κs = search needs
+bounds-requires c κs = omega arith
 
 enum-known-lower : tie.Need-enum-known-lower
-enum-known-lower c = search needs
+enum-known-lower c = omega arith
 
 write-answer-requires : tie.Need-write-answer-requires
-write-answer-requires c κs = search needs
+write-answer-requires c κs = omega arith
 
 enum-known-lower-2 : tie.Need-enum-known-lower-2
-enum-known-lower-2 c = search needs
+enum-known-lower-2 c = omega arith
 
 write-answer-requires-2 : tie.Need-write-answer-requires-2
-write-answer-requires-2 c κs = search needs
+write-answer-requires-2 c κs = omega arith
 
 returns : tie.Need-returns
 returns c = let m = c .before .before .before in bounds-told (m .before .before .bounds .ensures) (m .lower .given .1) refl (c .write-answer .ensures)

@@ -2,7 +2,6 @@
 use mathlib.Core.Path.{_≡_, sym, ap, _∙_}
 use mathlib.Core.Option.{none}
 use native.Mathlib.Omega.{arith}
-use borrow.Author.Needs.{needs}
 use lib.ListN.{length}
 use Rattle.model.specs.Refusals.{firstRefusal}
 use Rattle.board.specs.Checks.{refusalOf}
@@ -13,13 +12,13 @@ use Rattle.mwelitunga.proofs.mw_session.Statement.{statement}
 use Rattle.mwelitunga.proofs.mw_session.Tie as tie
 
 unfit-requires : tie.Need-unfit-requires
-unfit-requires c κs = search needs
+unfit-requires c κs = omega arith
 
 enum-known-checked : tie.Need-enum-known-checked
-enum-known-checked c = search needs
+enum-known-checked c = omega arith
 
 write-answer-requires : tie.Need-write-answer-requires
-write-answer-requires c κs = search needs
+write-answer-requires c κs = omega arith
 
 -- the function's entry, as its calls see it
 abbrev start : tie.After-unfit → tie.Start
@@ -34,23 +33,23 @@ returns c =
     (sym (u .unfit .ensures) ∙ ap refusalOf (k .checked .given .1)) (c .write-answer .ensures)
 
 enum-told : tie.Need-enum-told
-enum-told c = search needs
+enum-told c = omega arith
 
 open-requires : tie.Need-open-requires
-open-requires c κs = search needs
+open-requires c κs = omega arith
 
 enum-known-opened : tie.Need-enum-known-opened
-enum-known-opened c = search needs
+enum-known-opened c = omega arith
 
 write-answer-requires-2 : tie.Need-write-answer-requires-2
-write-answer-requires-2 c κs = search needs
+write-answer-requires-2 c κs = omega arith
 
 -- nothing is against the calls
 fine : (c : tie.After-enum-told) → let a = start (c .before .before) .args in firstRefusal (callChecks (a .calls .now) (length (a .replies .now))) ≡ none
 fine c = sym (c .before .before .unfit .ensures) ∙ ap refusalOf (c .enum-told .given .1)
 
 same-length : tie.Need-same-length
-same-length c = search needs
+same-length c = omega arith
 
 returns-2 : tie.Need-returns-2
 returns-2 c =
@@ -62,7 +61,7 @@ returns-2 c =
     (opened-is (o .«open» .ensures) (k .opened .given .1)) (c .write-answer2 .ensures)
 
 enum-told-2 : tie.Need-enum-told-2
-enum-told-2 c = search needs
+enum-told-2 c = omega arith
 
 run-requires : tie.Need-run-requires
 run-requires c κs =
@@ -80,13 +79,13 @@ write-starts-requires c κs =
     ran (from-open (opened-is (o .«open» .ensures) (t .enum-told2 .given .1))) (r .run .ensures .run) .1 .valid .board .sane .whole
 
 write-answer-requires-3 : tie.Need-write-answer-requires-3
-write-answer-requires-3 c κs = search needs
+write-answer-requires-3 c κs = omega arith
 
 same-length-2 : tie.Need-same-length-2
-same-length-2 c = search needs
+same-length-2 c = omega arith
 
 same-length-3 : tie.Need-same-length-3
-same-length-3 c = search needs
+same-length-3 c = omega arith
 
 returns-3 : tie.Need-returns-3
 returns-3 c =

@@ -1,37 +1,37 @@
 -- `mw_verify` meets its contract: what the verifier says, in numbers. Assumes nothing.
 use mathlib.Core.Path.{refl}
-use borrow.Author.Needs.{needs}
+use native.Mathlib.Omega.{arith}
 use Rattle.verifier.specs.Answer.{verdictOf}
 use Rattle.mwelitunga.proofs.Told.{told}
 use Rattle.mwelitunga.proofs.mw_verify.Statement.{statement}
 use Rattle.mwelitunga.proofs.mw_verify.Tie as tie
 
 verify-requires : tie.Need-verify-requires
-verify-requires c κs = search needs
+verify-requires c κs = omega arith
 
 enum-told : tie.Need-enum-told
-enum-told c = search needs
+enum-told c = omega arith
 
 write-answer-requires : tie.Need-write-answer-requires
-write-answer-requires c κs = search needs
+write-answer-requires c κs = omega arith
 
 enum-known-verdict : tie.Need-enum-known-verdict
-enum-known-verdict c = search needs
+enum-known-verdict c = omega arith
 
 write-answer-requires-2 : tie.Need-write-answer-requires-2
-write-answer-requires-2 c κs = search needs
+write-answer-requires-2 c κs = omega arith
 
 enum-known-verdict-2 : tie.Need-enum-known-verdict-2
-enum-known-verdict-2 c = search needs
+enum-known-verdict-2 c = omega arith
 
 write-answer-requires-3 : tie.Need-write-answer-requires-3
-write-answer-requires-3 c κs = search needs
+write-answer-requires-3 c κs = omega arith
 
 enum-known-verdict-3 : tie.Need-enum-known-verdict-3
-enum-known-verdict-3 c = search needs
+enum-known-verdict-3 c = omega arith
 
 write-answer-requires-4 : tie.Need-write-answer-requires-4
-write-answer-requires-4 c κs = search needs
+write-answer-requires-4 c κs = omega arith
 
 returns : tie.Need-returns
 returns c = let m = c .before .before in told verdictOf (m .before .before .verify .ensures) (m .enum-told .given .1) refl (c .write-answer .ensures)

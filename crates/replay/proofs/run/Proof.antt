@@ -4,7 +4,6 @@ use mathlib.Core.List.{[]}
 use mathlib.Core.Logic.{⊎-elim}
 use Prim.Native.Nat.{ℕ, _+_, _*_, _-_, _≤_}
 use native.Mathlib.Omega.{arith}
-use borrow.Author.Needs.{needs}
 use lib.ListN.{length, getD}
 use Rattle.model.proofs.Firsts.{getD-within}
 use Rattle.session.specs.View.{blank, Valid}
@@ -30,49 +29,49 @@ loop-holds c =
     (omega arith, s .pre .0, made-none (s .args .calls .now) (s .args .s) (s .args .rows .now) (s .args .replies .now), refl, refl)
 
 mul-to : tie.Need-mul-to Inv-loop μ-loop
-mul-to c = search needs
+mul-to c = omega arith
 
 mul-kind : tie.Need-mul-kind Inv-loop μ-loop
-mul-kind c = search needs
+mul-kind c = omega arith
 
 mul-kind-2 : tie.Need-mul-kind-2 Inv-loop μ-loop
-mul-kind-2 c = search needs
+mul-kind-2 c = omega arith
 
 shared-slice-read-kind : tie.Need-shared-slice-read-kind Inv-loop μ-loop
-shared-slice-read-kind c = search needs
+shared-slice-read-kind c = omega arith
 
 mul-a : tie.Need-mul-a Inv-loop μ-loop
-mul-a c = search needs
+mul-a c = omega arith
 
 add-a : tie.Need-add-a Inv-loop μ-loop
-add-a c = search needs
+add-a c = omega arith
 
 mul-a-2 : tie.Need-mul-a-2 Inv-loop μ-loop
-mul-a-2 c = search needs
+mul-a-2 c = omega arith
 
 shared-slice-read-a : tie.Need-shared-slice-read-a Inv-loop μ-loop
-shared-slice-read-a c = search needs
+shared-slice-read-a c = omega arith
 
 mul-b : tie.Need-mul-b Inv-loop μ-loop
-mul-b c = search needs
+mul-b c = omega arith
 
 add-b : tie.Need-add-b Inv-loop μ-loop
-add-b c = search needs
+add-b c = omega arith
 
 mul-b-2 : tie.Need-mul-b-2 Inv-loop μ-loop
-mul-b-2 c = search needs
+mul-b-2 c = omega arith
 
 shared-slice-read-b : tie.Need-shared-slice-read-b Inv-loop μ-loop
-shared-slice-read-b c = search needs
+shared-slice-read-b c = omega arith
 
 place-of-requires : tie.Need-place-of-requires Inv-loop μ-loop
 place-of-requires c κs = c .before .before .before .before .loop .inv .1 .few
 
 mul-wanted : tie.Need-mul-wanted Inv-loop μ-loop
-mul-wanted c = search needs
+mul-wanted c = omega arith
 
 element-copy-out-wanted : tie.Need-element-copy-out-wanted Inv-loop μ-loop
-element-copy-out-wanted c = search needs
+element-copy-out-wanted c = omega arith
 
 -- the loop's turn, as the call sees it
 abbrev turn : tie.After-place-of Inv-loop μ-loop → tie.At-loop Inv-loop μ-loop
@@ -97,7 +96,7 @@ make-requires c κs =
     record { saved = l .loop .t .saved; valid = l .loop .inv .1; wanted-is = wanted-there p }
 
 mul-t39 : tie.Need-mul-t39 Inv-loop μ-loop
-mul-t39 c = search needs
+mul-t39 c = omega arith
 
 element-set-from-t : tie.Need-element-set-from-t Inv-loop μ-loop
 element-set-from-t c =
@@ -107,7 +106,7 @@ element-set-from-t c =
     omega (arith, c .if1 .taken, k .make .ensures .steps (l .loop .t .saved) (l .loop .inv .1) (wanted-there p) .valid .few)
 
 write-reply-requires : tie.Need-write-reply-requires Inv-loop μ-loop
-write-reply-requires c κs = search needs
+write-reply-requires c κs = omega arith
 
 add-i : tie.Need-add-i Inv-loop μ-loop
 add-i c =
@@ -115,7 +114,7 @@ add-i c =
     omega (arith, i .loop-test .taken, i .before .before .before .before .before .fits .n)
 
 loop-less : tie.Need-loop-less Inv-loop μ-loop
-loop-less c = search needs
+loop-less c = omega arith
 
 loop-again : tie.Need-loop-again Inv-loop μ-loop
 loop-again c =
@@ -140,10 +139,10 @@ loop-again c =
     )
 
 same-length : tie.Need-same-length Inv-loop μ-loop
-same-length c = search needs
+same-length c = omega arith
 
 same-length-2 : tie.Need-same-length-2 Inv-loop μ-loop
-same-length-2 c = search needs
+same-length-2 c = omega arith
 
 returns : tie.Need-returns Inv-loop μ-loop
 returns c =

@@ -1,6 +1,6 @@
 -- `search` meets its contract: the first check that fails is the answer, or the bounds' refusal; where there is neither, the attempt's. Assumes nothing.
 use mathlib.Core.Path.{sym, ap, _∙_}
-use borrow.Author.Needs.{needs}
+use native.Mathlib.Omega.{arith}
 use Rattle.loop_file.specs.Read.{readingOf}
 use Rattle.loop_file.proofs.Answers.{IsAccepted, read-accepted}
 use Rattle.search.proofs.Requests.{Passes, by-file, by-request, all-pass, by-lower, passed, by-attempt}
@@ -8,16 +8,16 @@ use Rattle.search.proofs.search.Statement.{statement}
 use Rattle.search.proofs.search.Tie as tie
 
 read-requires : tie.Need-read-requires
-read-requires c κs = search needs
+read-requires c κs = omega arith
 
 enum-known-reading : tie.Need-enum-known-reading
-enum-known-reading c = search needs
+enum-known-reading c = omega arith
 
 enum-told : tie.Need-enum-told
-enum-told c = search needs
+enum-told c = omega arith
 
 unread-requires : tie.Need-unread-requires
-unread-requires c κs = search needs
+unread-requires c κs = omega arith
 
 returns : tie.Need-returns
 returns c = by-file (c .before .before .before .read .ensures) (c .before .enum-told .given .1) (c .unread .ensures)
@@ -33,16 +33,16 @@ known : (c : tie.After-known-told) → let t = c .before .reading .given .0 in I
 known c = read-accepted _ _ _ _ (sym (ap readingOf (c .before .reading .given .1)) ∙ c .before .before .before .read .ensures)
 
 first-refusal-requires : tie.Need-first-refusal-requires
-first-refusal-requires c κs = search needs
+first-refusal-requires c κs = omega arith
 
 enum-told-2 : tie.Need-enum-told-2
-enum-told-2 c = search needs
+enum-told-2 c = omega arith
 
 enum-told-3 : tie.Need-enum-told-3
-enum-told-3 c = search needs
+enum-told-3 c = omega arith
 
 refused-requires : tie.Need-refused-requires
-refused-requires c κs = search needs
+refused-requires c κs = omega arith
 
 returns-2 : tie.Need-returns-2
 returns-2 c = let a = c .before .before .before in by-request (known (a .before)) (a .first-refusal .ensures) (c .before .enum-told3 .given .1) (c .refused .ensures)
@@ -59,13 +59,13 @@ lower-requires : tie.Need-lower-requires
 lower-requires c κs = known (c .before .before .before) .file
 
 enum-known-lower : tie.Need-enum-known-lower
-enum-known-lower c = search needs
+enum-known-lower c = omega arith
 
 enum-told-4 : tie.Need-enum-told-4
-enum-told-4 c = search needs
+enum-told-4 c = omega arith
 
 unbounded-requires : tie.Need-unbounded-requires
-unbounded-requires c κs = search needs
+unbounded-requires c κs = omega arith
 
 returns-3 : tie.Need-returns-3
 returns-3 c = let b = c .before .before .before in by-lower (fine (b .before)) (b .lower .ensures) (c .before .enum-told4 .given .1) (c .unbounded .ensures)
@@ -79,10 +79,10 @@ attempt-requires c κs =
     passed (fine (b .before)) (b .lower .ensures) (k .lower2 .given .1)
 
 same-length : tie.Need-same-length
-same-length c = search needs
+same-length c = omega arith
 
 same-length-2 : tie.Need-same-length-2
-same-length-2 c = search needs
+same-length-2 c = omega arith
 
 returns-4 : tie.Need-returns-4
 returns-4 c =

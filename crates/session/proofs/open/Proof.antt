@@ -3,7 +3,6 @@ use mathlib.Core.Path.{_≡_, sym, ap, _∙_}
 use mathlib.Core.Option.{none}
 use Prim.Native.Nat.{ℕ}
 use native.Mathlib.Omega.{arith}
-use borrow.Author.Needs.{needs}
 use lib.ListN.{length, replicate, length-replicate}
 use Rattle.model.specs.Refusals.{firstRefusal}
 use Rattle.model.specs.Session.{openChecks}
@@ -15,16 +14,16 @@ use Rattle.session.proofs.open.Statement.{statement}
 use Rattle.session.proofs.open.Tie as tie
 
 closed-requires : tie.Need-closed-requires
-closed-requires c κs = search needs
+closed-requires c κs = omega arith
 
 openable-requires : tie.Need-openable-requires
-openable-requires c κs = search needs
+openable-requires c κs = omega arith
 
 enum-told : tie.Need-enum-told
-enum-told c = search needs
+enum-told c = omega arith
 
 enum-told-2 : tie.Need-enum-told-2
-enum-told-2 c = search needs
+enum-told-2 c = omega arith
 
 abbrev start : tie.After-openable → tie.Start
 start c = c .before .before .before .before
@@ -72,7 +71,7 @@ clear-rows-requires c κs =
     omega (arith, open-room (a .file .now) (a .interval) (a .horizon) (a .rows .now) (fine e), open-some (a .file .now) (a .interval) (a .horizon) (a .rows .now) (fine e))
 
 same-length : tie.Need-same-length
-same-length c = search needs
+same-length c = omega arith
 
 returns-2 : tie.Need-returns-2
 returns-2 c =

@@ -1,7 +1,6 @@
 -- `rollback` meets its contract: the starts of the checkpoint, and the rows made theirs. Assumes nothing.
 use mathlib.Core.List.{[]}
 use native.Mathlib.Omega.{arith}
-use borrow.Author.Needs.{needs}
 use Rattle.board.proofs.Boards.{sane-more, board-far}
 use Rattle.session.proofs.Stepping.{no-mark, not-open, wanted-sane, stepped-rollback}
 use Rattle.session.proofs.rollback.Statement.{statement}
@@ -14,13 +13,13 @@ returns-2 : tie.Need-returns-2
 returns-2 c = let e = c .before in let s = e .before .before in not-open (s .args .t1) (s .args .rows .now) (s .pre) (s .args .m) (e .if1 .left) (c .if2 .taken)
 
 sub-wanted : tie.Need-sub-wanted
-sub-wanted c = search needs
+sub-wanted c = omega arith
 
 mul-wanted : tie.Need-mul-wanted
-mul-wanted c = search needs
+mul-wanted c = omega arith
 
 element-copy-out-wanted : tie.Need-element-copy-out-wanted
-element-copy-out-wanted c = search needs
+element-copy-out-wanted c = omega arith
 
 restore-requires : tie.Need-restore-requires
 restore-requires c κs =
@@ -30,7 +29,7 @@ restore-requires c κs =
     (omega (arith, v .stored, v .fits-in), board-far (v .board), sane-more (v .board .numbers .far) (wanted-sane (s .args .t1) (s .args .rows .now) v (s .args .m) (t .before .if1 .left) (t .if2 .left) (record { at = [] })))
 
 same-length : tie.Need-same-length
-same-length c = search needs
+same-length c = omega arith
 
 returns-3 : tie.Need-returns-3
 returns-3 c =

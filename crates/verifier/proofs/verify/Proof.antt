@@ -4,7 +4,6 @@ use mathlib.Core.List.{List}
 use mathlib.Core.Option.{Option, none}
 use Prim.Native.Nat.{ℕ, _≤_, _<_}
 use native.Mathlib.Omega.{arith}
-use borrow.Author.Needs.{needs}
 use lib.ListN.{length}
 use Rattle.model.specs.Refusals.{answered, refused}
 use Rattle.model.specs.Loop.{size}
@@ -20,16 +19,16 @@ use Rattle.verifier.proofs.verify.Statement.{statement}
 use Rattle.verifier.proofs.verify.Tie as tie
 
 read-requires : tie.Need-read-requires
-read-requires c κs = search needs
+read-requires c κs = omega arith
 
 enum-known-reading : tie.Need-enum-known-reading
-enum-known-reading c = search needs
+enum-known-reading c = omega arith
 
 enum-told : tie.Need-enum-told
-enum-told c = search needs
+enum-told c = omega arith
 
 passed-on-requires : tie.Need-passed-on-requires
-passed-on-requires c κs = search needs
+passed-on-requires c κs = omega arith
 
 returns : tie.Need-returns
 returns c =
@@ -74,7 +73,7 @@ returns-4 c =
     sym (proposal-refused (file k) (g .interval) (g .starts .now) _ (accepted k) (short-refused (loopOf (file k)) (g .interval) (g .starts .now) (c .before .before .if1 .left) (c .before .if2 .left) t))
 
 first-late-requires : tie.Need-first-late-requires
-first-late-requires c κs = search needs
+first-late-requires c κs = omega arith
 
 -- ---- once the list is long enough
 
@@ -116,13 +115,13 @@ first-broken-requires : tie.Need-first-broken-requires
 first-broken-requires c κs = (accepted (known c), asked c)
 
 enum-told-2 : tie.Need-enum-told-2
-enum-told-2 c = search needs
+enum-told-2 c = omega arith
 
 enum-told-3 : tie.Need-enum-told-3
-enum-told-3 c = search needs
+enum-told-3 c = omega arith
 
 broken-requires : tie.Need-broken-requires
-broken-requires c κs = search needs
+broken-requires c κs = omega arith
 
 returns-6 : tie.Need-returns-6
 returns-6 c =
@@ -139,13 +138,13 @@ first-pair-requires : tie.Need-first-pair-requires
 first-pair-requires c κs = let d = c .before .before .before in (accepted (known d), asked d)
 
 enum-told-4 : tie.Need-enum-told-4
-enum-told-4 c = search needs
+enum-told-4 c = omega arith
 
 enum-told-5 : tie.Need-enum-told-5
-enum-told-5 c = search needs
+enum-told-5 c = omega arith
 
 conflict-requires : tie.Need-conflict-requires
-conflict-requires c κs = search needs
+conflict-requires c κs = omega arith
 
 returns-7 : tie.Need-returns-7
 returns-7 c =

@@ -3,7 +3,6 @@ use mathlib.Core.Path.{_≡_, sym, ap, _∙_}
 use mathlib.Core.Option.{none}
 use Prim.Native.Nat.{ℕ}
 use native.Mathlib.Omega.{arith}
-use borrow.Author.Needs.{needs}
 use lib.ListN.{replicate, length-replicate}
 use Rattle.model.specs.Refusals.{firstRefusal}
 use Rattle.model.specs.File.{loopOf}
@@ -18,10 +17,10 @@ known-requires : tie.Need-known-requires
 known-requires c κs = c .before .pre .2
 
 enum-told : tie.Need-enum-told
-enum-told c = search needs
+enum-told c = omega arith
 
 enum-told-2 : tie.Need-enum-told-2
-enum-told-2 c = search needs
+enum-told-2 c = omega arith
 
 abbrev start : tie.After-known → tie.Start
 start c = c .before .before
@@ -38,7 +37,7 @@ known-is : (c : tie.After-enum-told) → let a = start (c .before .before) .args
 known-is c = sym (c .before .before .known .ensures) ∙ ap refusalOf (c .enum-told .given .1)
 
 slice-aggregate-first-broken : tie.Need-slice-aggregate-first-broken
-slice-aggregate-first-broken c = search needs
+slice-aggregate-first-broken c = omega arith
 
 first-broken-requires : tie.Need-first-broken-requires
 first-broken-requires c κs =
@@ -48,7 +47,7 @@ first-broken-requires c κs =
     (p .0, omega (arith, known-near (a .file .now) (a .horizon) (a .op) (a .start) (a .starts .now) (known-is (c .before)), p .1 .far), p .1 .short, rw (length-replicate {A = ℕ} 64 65535) (accepted-ok (a .file .now) (p .0) .few))
 
 enum-known-broken : tie.Need-enum-known-broken
-enum-known-broken c = search needs
+enum-known-broken c = omega arith
 
 returns-2 : tie.Need-returns-2
 returns-2 c =
@@ -59,7 +58,7 @@ returns-2 c =
     sym (force-broken (a .file .now) (a .interval) (a .horizon) (a .starts .now) (a .op) (a .start) (known-is t) 64 _ (sym (w .first-broken .ensures) ∙ ap brokenOf (b .broken .given .1)))
 
 enum-told-3 : tie.Need-enum-told-3
-enum-told-3 c = search needs
+enum-told-3 c = omega arith
 
 -- no dependence of the operation with itself is broken
 held-is : (c : tie.After-enum-told3) → let a = start (c .before .before .before .before .before .before) .args in firstBreach (loopOf (a .file .now)) (a .interval) (seats (replicate 64 65535)) (a .op) (a .start) ≡ none

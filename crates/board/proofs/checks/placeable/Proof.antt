@@ -2,7 +2,6 @@
 use mathlib.Core.Path.{_≡_, sym, ap, _∙_}
 use mathlib.Core.Option.{none}
 use native.Mathlib.Omega.{arith}
-use borrow.Author.Needs.{needs}
 use Rattle.model.specs.Refusals.{firstRefusal}
 use Rattle.model.specs.File.{loopOf}
 use Rattle.model.proofs.File.{accepted-ok}
@@ -17,10 +16,10 @@ known-requires : tie.Need-known-requires
 known-requires c κs = let p = c .before .before .pre in record { accepted = p .accepted; whole = p .sane .whole }
 
 enum-told : tie.Need-enum-told
-enum-told c = search needs
+enum-told c = omega arith
 
 enum-told-2 : tie.Need-enum-told-2
-enum-told-2 c = search needs
+enum-told-2 c = omega arith
 
 abbrev start : tie.After-known → tie.Start
 start c = c .before .before .before
@@ -44,7 +43,7 @@ first-broken-requires c κs =
     (p .accepted, omega (arith, known-near (a .file .now) (a .horizon) (a .op) (a .start) (a .starts .now) (known-is (c .before)), p .numbers .far), p .numbers .short, omega (arith, accepted-ok (a .file .now) (p .accepted) .few, p .sane .whole))
 
 enum-known-broken : tie.Need-enum-known-broken
-enum-known-broken c = search needs
+enum-known-broken c = omega arith
 
 returns-2 : tie.Need-returns-2
 returns-2 c =
@@ -56,7 +55,7 @@ returns-2 c =
     sym (place-broken (a .file .now) (a .interval) (a .horizon) (a .starts .now) (a .rows .now) (start k .pre) (a .op) (a .start) (known-is t) _ (sym (w .first-broken .ensures) ∙ ap brokenOf (b .broken .given .1)))
 
 enum-told-3 : tie.Need-enum-told-3
-enum-told-3 c = search needs
+enum-told-3 c = omega arith
 
 -- no dependence is broken
 held-is : (c : tie.After-enum-told3) → let a = start (c .before .before .before .before .before .before) .args in firstBreach (loopOf (a .file .now)) (a .interval) (seats (a .starts .now)) (a .op) (a .start) ≡ none
@@ -78,10 +77,10 @@ conflict-requires c κs =
     (p .accepted, known-inside (a .file .now) (a .horizon) (a .op) (a .start) (a .starts .now) (known-is t), omega (arith, known-near (a .file .now) (a .horizon) (a .op) (a .start) (a .starts .now) (known-is t), p .numbers .far), p .numbers .some, p .numbers .short, p .held .long, c .first-use .ensures)
 
 enum-told-4 : tie.Need-enum-told-4
-enum-told-4 c = search needs
+enum-told-4 c = omega arith
 
 enum-told-5 : tie.Need-enum-told-5
-enum-told-5 c = search needs
+enum-told-5 c = omega arith
 
 returns-3 : tie.Need-returns-3
 returns-3 c =

@@ -4,7 +4,6 @@ use mathlib.Core.List.{List}
 use mathlib.Core.Option.{none}
 use Prim.Native.Nat.{ℕ}
 use native.Mathlib.Omega.{arith}
-use borrow.Author.Needs.{needs}
 use lib.ListN.{take}
 use lib.Seq.{length-take-le}
 use Rattle.model.specs.Refusals.{firstRefusal}
@@ -30,10 +29,10 @@ abbrev file : tie.Start → List ℕ
 file s = take (s .args .length-) (s .args .store .now)
 
 enum-known-checked : tie.Need-enum-known-checked
-enum-known-checked c = search needs
+enum-known-checked c = omega arith
 
 same-length : tie.Need-same-length
-same-length c = search needs
+same-length c = omega arith
 
 returns : tie.Need-returns
 returns c =
@@ -42,7 +41,7 @@ returns c =
     did-refused (s .pre .1) (place (s .args .op) (s .args .start)) _ _ (sym (k .placeable .ensures) ∙ ap refusalOf (c .before .checked .given .1))
 
 enum-told : tie.Need-enum-told
-enum-told c = search needs
+enum-told c = omega arith
 
 -- nothing is against it
 fine : (c : tie.After-enum-told) → let s = start (c .before .before) in
@@ -59,7 +58,7 @@ put-requires c κs =
     (board-far b, place-inside b o t (fine e), blank-is (s .args .starts .now) o (place-open b o t (fine e)), omega (arith, place-near b o t (fine e), b .numbers .far), place-fits b o t (fine e))
 
 same-length-2 : tie.Need-same-length-2
-same-length-2 c = search needs
+same-length-2 c = omega arith
 
 returns-2 : tie.Need-returns-2
 returns-2 c =

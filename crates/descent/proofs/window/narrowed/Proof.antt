@@ -33,10 +33,10 @@ returns-2 : tie.Need-returns-2
 returns-2 c = let v = c .before .before in self-kept (ends (v .before .before)) _ (v .before .if1 .taken) (v .if2 .taken) (c .before .too-late .ensures) (c .if3 .left)
 
 mul-too-late : tie.Need-mul-too-late
-mul-too-late c = search needs
+mul-too-late c = omega arith
 
 shared-slice-read-too-late : tie.Need-shared-slice-read-too-late
-shared-slice-read-too-late c = search needs
+shared-slice-read-too-late c = omega arith
 
 -- an earlier operation's start is below 4,096
 early : (s : tie.Start) (p : ℕ) → p < s .args .op → getD (s .args .starts .now) p 0 < 4096
@@ -67,10 +67,10 @@ returns-5 : tie.Need-returns-5
 returns-5 c = let v = c .before in free-target (ends (v .before .before)) (v .before .if1 .taken) (v .if2 .left) (c .if4 .left)
 
 mul-earliest : tie.Need-mul-earliest
-mul-earliest c = search needs
+mul-earliest c = omega arith
 
 shared-slice-read-earliest : tie.Need-shared-slice-read-earliest
-shared-slice-read-earliest c = search needs
+shared-slice-read-earliest c = omega arith
 
 cast-earliest : tie.Need-cast-earliest
 cast-earliest c = let v = c .before in omega (arith, early (start (v .before .before .before)) (v .before .before .before .before .source .result) (v .if7 .taken))

@@ -4,7 +4,6 @@ use mathlib.Core.List.{List}
 use mathlib.Core.Option.{none}
 use Prim.Native.Nat.{ℕ, _+_, _*_, _/_, _≤_}
 use native.Mathlib.Omega.{arith}
-use borrow.Author.Needs.{needs}
 use Rattle.model.specs.Refusals.{firstRefusal, refused, settle}
 use Rattle.model.specs.File.{uses, lengthOf, usesAt, depsAt, opCount, depCount, firstUse, usesChecks}
 use Rattle.model.proofs.File.{Shape, shape}
@@ -16,10 +15,10 @@ use Rattle.loop_file.proofs.reader.bodies.Statement.{statement}
 use Rattle.loop_file.proofs.reader.bodies.Tie as tie
 
 word-requires : tie.Need-word-requires
-word-requires c κs = search needs
+word-requires c κs = omega arith
 
 word-requires-2 : tie.Need-word-requires-2
-word-requires-2 c κs = search needs
+word-requires-2 c κs = omega arith
 
 -- ---- once the first two lengths are read
 
@@ -42,10 +41,10 @@ ops-say : (c : tie.After-ops) → partOf (c .ops .result) ≡ settle (opsTable (
 ops-say c = rw (number (c .before)) at (c .ops .ensures)
 
 enum-known-first : tie.Need-enum-known-first
-enum-known-first c = search needs
+enum-known-first c = omega arith
 
 enum-told : tie.Need-enum-told
-enum-told c = search needs
+enum-told c = omega arith
 
 returns : tie.Need-returns
 returns c =
@@ -69,7 +68,7 @@ total : (c : tie.After-known-told) → c .before .first .given .0 .0 ≡ firstUs
 total c = fine-value (firstRefusal (opsTable (fileOf c) (opCount (fileOf c)))) (ops-say (opsOf c)) (ap partOf (c .before .first .given .1))
 
 add-start : tie.Need-add-start
-add-start c = search needs
+add-start c = omega arith
 
 -- there are at most four uses an operation
 few : (c : tie.After-known-told) → c .before .first .given .0 .0 ≤ 256
@@ -107,10 +106,10 @@ uses-say : (c : tie.After-uses) → partOf (c .uses .result) ≡ settle (usesTab
 uses-say c = rw (number (opsOf (c .before .before) .before), start-is (c .before .before)) at (c .uses .ensures)
 
 enum-told-2 : tie.Need-enum-told-2
-enum-told-2 c = search needs
+enum-told-2 c = omega arith
 
 enum-told-3 : tie.Need-enum-told-3
-enum-told-3 c = search needs
+enum-told-3 c = omega arith
 
 returns-3 : tie.Need-returns-3
 returns-3 c =
@@ -130,10 +129,10 @@ uses-passed c =
     sum-right (fileOf (u .before .before)) (right (u .before)) ∙ fine-none 0 (uses-say u) (ap partOf (c .enum-told2 .given .1))
 
 add-deps : tie.Need-add-deps
-add-deps c = search needs
+add-deps c = omega arith
 
 word-requires-3 : tie.Need-word-requires-3
-word-requires-3 c κs = search needs
+word-requires-3 c κs = omega arith
 
 deps-requires : tie.Need-deps-requires
 deps-requires c κs =
@@ -150,10 +149,10 @@ deps-say c =
     same f p q r = rw (p, q, r)
 
 enum-told-4 : tie.Need-enum-told-4
-enum-told-4 c = search needs
+enum-told-4 c = omega arith
 
 enum-told-5 : tie.Need-enum-told-5
-enum-told-5 c = search needs
+enum-told-5 c = omega arith
 
 returns-4 : tie.Need-returns-4
 returns-4 c =

@@ -9,7 +9,6 @@ use lib.Dec.{eqb}
 use lib.ListN.{length, getD}
 use mir.Syntax.{w8}
 use mir.Val.{Fits}
-use borrow.Author.Needs.{needs}
 use borrow.Author.Tests.{eq-eqb, ne-eqb}
 use Rattle.model.specs.Refusals.{Check, check, firstRefusal, settle}
 use Rattle.model.specs.File.{Section, oper, uses, deps, operAt, usesAt, depsAt, endAt, lengthOf, entryChecks, contentsChecks}
@@ -116,13 +115,13 @@ module _ (c : tie.After-known-told3) where
 -- ---- the needs
 
 entry-requires : tie.Need-entry-requires
-entry-requires c κs = search needs
+entry-requires c κs = omega arith
 
 enum-known-first : tie.Need-enum-known-first
-enum-known-first c = search needs
+enum-known-first c = omega arith
 
 enum-told : tie.Need-enum-told
-enum-told c = search needs
+enum-told c = omega arith
 
 returns : tie.Need-returns
 returns c = refuse (first (c .before .before)) (c .enum-told .given .1)
@@ -131,13 +130,13 @@ add-entry : tie.Need-add-entry
 add-entry c = omega (arith, got-first (c .before) .small)
 
 entry-requires-2 : tie.Need-entry-requires-2
-entry-requires-2 c κs = search needs
+entry-requires-2 c κs = omega arith
 
 enum-known-second : tie.Need-enum-known-second
-enum-known-second c = search needs
+enum-known-second c = omega arith
 
 enum-told-2 : tie.Need-enum-told-2
-enum-told-2 c = search needs
+enum-told-2 c = omega arith
 
 returns-2 : tie.Need-returns-2
 returns-2 c = refuse (second (c .before .before)) (c .enum-told2 .given .1)
@@ -149,13 +148,13 @@ add-entry-3 : tie.Need-add-entry-3
 add-entry-3 c = omega (arith, got-first (c .before .before .before .before .before .before) .small, got-second (c .before) .small)
 
 entry-requires-3 : tie.Need-entry-requires-3
-entry-requires-3 c κs = search needs
+entry-requires-3 c κs = omega arith
 
 enum-known-third : tie.Need-enum-known-third
-enum-known-third c = search needs
+enum-known-third c = omega arith
 
 enum-told-3 : tie.Need-enum-told-3
-enum-told-3 c = search needs
+enum-told-3 c = omega arith
 
 returns-3 : tie.Need-returns-3
 returns-3 c = refuse (third (c .before .before)) (c .enum-told3 .given .1)

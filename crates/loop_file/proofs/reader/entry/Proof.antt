@@ -4,7 +4,7 @@ use mathlib.Core.Bool.{not, _||_}
 use mathlib.Core.List.{List, [], _∷_}
 use Prim.Native.Nat.{_+_, _/_, _%_}
 use lib.Dec.{eqb, ltb}
-use borrow.Author.Needs.{needs}
+use native.Mathlib.Omega.{arith}
 use borrow.Author.Tests.{lt-ltb, le-ltb, eq-eqb, ne-eqb}
 use Rattle.model.specs.Refusals.{Check, check, firstRefusal, settle}
 use Rattle.model.specs.File.{wordAt, entryChecks}
@@ -13,30 +13,30 @@ use Rattle.loop_file.proofs.reader.entry.Statement.{statement}
 use Rattle.loop_file.proofs.reader.entry.Tie as tie
 
 tag-is-requires : tie.Need-tag-is-requires
-tag-is-requires c κs = search needs
+tag-is-requires c κs = omega arith
 
 returns : tie.Need-returns
 unfolding firstRefusal entryChecks
 returns c = rw (← c .before .tag-is .ensures, c .if1 .taken)
 
 add-word : tie.Need-add-word
-add-word c = search needs
+add-word c = omega arith
 
 word-requires : tie.Need-word-requires
-word-requires c κs = search needs
+word-requires c κs = omega arith
 
 returns-2 : tie.Need-returns-2
 unfolding firstRefusal entryChecks
 returns-2 c = rw (← c .before .before .before .tag-is .ensures, c .before .before .if1 .left, ← c .before .word .ensures .0, ne-eqb _ _ (c .if2 .taken))
 
 add-word-2 : tie.Need-add-word-2
-add-word-2 c = search needs
+add-word-2 c = omega arith
 
 word-requires-2 : tie.Need-word-requires-2
-word-requires-2 c κs = search needs
+word-requires-2 c κs = omega arith
 
 rem-if3 : tie.Need-rem-if3
-rem-if3 c = search needs
+rem-if3 c = omega arith
 
 -- past the tag and the offset: what is left of the table asks only the length that was read, which is the number answered
 module _ (c : tie.After-word2) where
@@ -58,14 +58,14 @@ unfolding firstRefusal
 returns-3 c = rw (← late (c .before), ne-eqb _ _ (c .if3 .taken))
 
 div-if4 : tie.Need-div-if4
-div-if4 c = search needs
+div-if4 c = omega arith
 
 returns-4 : tie.Need-returns-4
 unfolding firstRefusal
 returns-4 c = rw (← late (c .before .before), eq-eqb _ _ (c .before .if3 .left), lt-ltb _ _ (c .if4 .taken))
 
 div-if5 : tie.Need-div-if5
-div-if5 c = search needs
+div-if5 c = omega arith
 
 returns-5 : tie.Need-returns-5
 unfolding firstRefusal

@@ -2,7 +2,6 @@
 use mathlib.Core.Path.{_≡_, refl}
 use Prim.Native.Nat.{_≤_}
 use native.Mathlib.Omega.{arith}
-use borrow.Author.Needs.{needs}
 use Rattle.model.specs.Session as model
 use Rattle.session.specs.View.{blank}
 use Rattle.replay.specs.Parts.{callOf}
@@ -54,10 +53,10 @@ place-requires : tie.Need-place-requires
 place-requires c κs = let v = c .before .before .before .before .before .pre .valid in (omega (arith, v .stored, v .fits-in), v .board)
 
 told-requires : tie.Need-told-requires
-told-requires c κs = search needs
+told-requires c κs = omega arith
 
 same-length : tie.Need-same-length
-same-length c = search needs
+same-length c = omega arith
 
 returns : tie.Need-returns
 returns c =
@@ -68,10 +67,10 @@ force-requires : tie.Need-force-requires
 force-requires c κs = let v = c .before .before .before .before .before .before .pre .valid in (omega (arith, v .stored, v .fits-in), v .board)
 
 told-requires-2 : tie.Need-told-requires-2
-told-requires-2 c κs = search needs
+told-requires-2 c κs = omega arith
 
 same-length-2 : tie.Need-same-length-2
-same-length-2 c = search needs
+same-length-2 c = omega arith
 
 returns-2 : tie.Need-returns-2
 returns-2 c =
@@ -82,10 +81,10 @@ remove-requires : tie.Need-remove-requires
 remove-requires c κs = let v = c .before .before .before .before .before .before .before .pre .valid in (omega (arith, v .stored, v .fits-in), board-far (v .board))
 
 told-requires-3 : tie.Need-told-requires-3
-told-requires-3 c κs = search needs
+told-requires-3 c κs = omega arith
 
 same-length-3 : tie.Need-same-length-3
-same-length-3 c = search needs
+same-length-3 c = omega arith
 
 returns-3 : tie.Need-returns-3
 returns-3 c =
@@ -95,34 +94,34 @@ returns-3 c =
 -- ---- checkpoints
 
 told-requires-4 : tie.Need-told-requires-4
-told-requires-4 c κs = search needs
+told-requires-4 c κs = omega arith
 
 returns-4 : tie.Need-returns-4
 returns-4 c = let t = c .before in rw (c .told4 .ensures) (turned-did _ (is-checkpoint (t .before)) (λ v ok. full _ _ ok (t .if5 .taken)))
 
 add-told : tie.Need-add-told
-add-told c = search needs
+add-told c = omega arith
 
 add-t28 : tie.Need-add-t28
-add-t28 c = search needs
+add-t28 c = omega arith
 
 told-requires-5 : tie.Need-told-requires-5
-told-requires-5 c κs = search needs
+told-requires-5 c κs = omega arith
 
 returns-5 : tie.Need-returns-5
 returns-5 c = let t = c .before in rw (c .told5 .ensures) (turned-checkpoint (is-checkpoint (t .before)) (t .if5 .left))
 
 told-requires-6 : tie.Need-told-requires-6
-told-requires-6 c κs = search needs
+told-requires-6 c κs = omega arith
 
 returns-6 : tie.Need-returns-6
 returns-6 c = let t = c .before in rw (c .told6 .ensures) (turned-did _ (is-release (t .before)) (λ v ok. none-open _ _ ok (t .if7 .taken)))
 
 sub-told : tie.Need-sub-told
-sub-told c = search needs
+sub-told c = omega arith
 
 told-requires-7 : tie.Need-told-requires-7
-told-requires-7 c κs = search needs
+told-requires-7 c κs = omega arith
 
 returns-7 : tie.Need-returns-7
 returns-7 c = let t = c .before in rw (c .told7 .ensures) (turned-release (is-release (t .before)) (t .if7 .left))
@@ -130,13 +129,13 @@ returns-7 c = let t = c .before in rw (c .told7 .ensures) (turned-release (is-re
 -- ---- rollback
 
 told-requires-8 : tie.Need-told-requires-8
-told-requires-8 c κs = search needs
+told-requires-8 c κs = omega arith
 
 returns-8 : tie.Need-returns-8
 returns-8 c = let t = c .before in rw (c .told8 .ensures) (turned-did _ (is-rollback (t .before)) (λ v ok. no-mark _ _ ok _ (t .if8 .taken)))
 
 told-requires-9 : tie.Need-told-requires-9
-told-requires-9 c κs = search needs
+told-requires-9 c κs = omega arith
 
 returns-9 : tie.Need-returns-9
 returns-9 c =
@@ -157,10 +156,10 @@ restore-requires c κs =
     )
 
 told-requires-10 : tie.Need-told-requires-10
-told-requires-10 c κs = search needs
+told-requires-10 c κs = omega arith
 
 same-length-4 : tie.Need-same-length-4
-same-length-4 c = search needs
+same-length-4 c = omega arith
 
 returns-10 : tie.Need-returns-10
 returns-10 c =

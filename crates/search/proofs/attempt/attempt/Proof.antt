@@ -1,18 +1,19 @@
 -- `attempt::attempt` meets its contract. What is known once the list is written is said once, in `come`. Assumes nothing.
 use mathlib.Core.Path.{refl, _∙_}
 use borrow.Author.Needs.{needs}
+use native.Mathlib.Omega.{arith}
 use Rattle.search.proofs.Attempts.{clears, room, Come, found-ranged, none-ranged, finds, ends, stops}
 use Rattle.search.proofs.attempt.attempt.Statement.{statement}
 use Rattle.search.proofs.attempt.attempt.Tie as tie
 
 clear-rows-requires : tie.Need-clear-rows-requires
-clear-rows-requires c κs = search needs
+clear-rows-requires c κs = omega arith
 
 slice-aggregate-sweep : tie.Need-slice-aggregate-sweep
-slice-aggregate-sweep c = search needs
+slice-aggregate-sweep c = omega arith
 
 larger-requires : tie.Need-larger-requires
-larger-requires c κs = search needs
+larger-requires c κs = omega arith
 
 -- the entry, from before the sweep
 abbrev start : tie.After-larger → tie.Start
@@ -28,10 +29,10 @@ sweep-requires c κs = clears _ _ (start c .args .resource) _ (start c .pre) ref
 -- ---- once the intervals are swept
 
 slice-aggregate-write-list : tie.Need-slice-aggregate-write-list
-slice-aggregate-write-list c = search needs
+slice-aggregate-write-list c = omega arith
 
 kept-requires : tie.Need-kept-requires
-kept-requires c κs = search needs
+kept-requires c κs = omega arith
 
 -- the sweep, from before the write
 abbrev sweeping : tie.After-kept → tie.After-sweep
@@ -57,16 +58,16 @@ come c =
       swept-is = s .sweep .ensures .0;
       ranged = s .sweep .ensures .1 .1;
       least-is = s .before .larger .ensures;
-      wide = search needs;
+      wide = omega arith;
       list-is = rw (c .before .kept .ensures) at (c .write-list .ensures);
       rows-are = s .sweep .ensures .1 .0 ∙ clearing (s .before) .clear-rows .ensures;
     }
 
 enum-known-swept : tie.Need-enum-known-swept
-enum-known-swept c = search needs
+enum-known-swept c = omega arith
 
 slice-aggregate-stage-count : tie.Need-slice-aggregate-stage-count
-slice-aggregate-stage-count c = search needs
+slice-aggregate-stage-count c = omega arith
 
 -- the write, from where the answer has a list, where it has none, and where the budget is spent
 abbrev found-at : tie.After-swept → tie.After-write-list
@@ -92,7 +93,7 @@ sub-t32 c =
     found-ranged (entry w .pre) (come w) _ _ (m .swept .given .1) .2
 
 enum-known-swept-2 : tie.Need-enum-known-swept-2
-enum-known-swept-2 c = search needs
+enum-known-swept-2 c = omega arith
 
 sub-t34 : tie.Need-sub-t34
 sub-t34 c =
@@ -100,13 +101,13 @@ sub-t34 c =
     none-ranged (entry w .pre) (come w) _ (c .before .swept2 .given .1)
 
 enum-known-swept-3 : tie.Need-enum-known-swept-3
-enum-known-swept-3 c = search needs
+enum-known-swept-3 c = omega arith
 
 same-length : tie.Need-same-length
-same-length c = search needs
+same-length c = omega arith
 
 same-length-2 : tie.Need-same-length-2
-same-length-2 c = search needs
+same-length-2 c = omega arith
 
 returns : tie.Need-returns
 returns c =
@@ -115,10 +116,10 @@ returns c =
     finds (entry w .pre) (come w) _ _ _ (m .swept .given .1) (c .stage-count .ensures)
 
 same-length-3 : tie.Need-same-length-3
-same-length-3 c = search needs
+same-length-3 c = omega arith
 
 same-length-4 : tie.Need-same-length-4
-same-length-4 c = search needs
+same-length-4 c = omega arith
 
 returns-2 : tie.Need-returns-2
 returns-2 c =
@@ -126,10 +127,10 @@ returns-2 c =
     ends (entry w .pre) (come w) _ (c .before .swept2 .given .1)
 
 same-length-5 : tie.Need-same-length-5
-same-length-5 c = search needs
+same-length-5 c = omega arith
 
 same-length-6 : tie.Need-same-length-6
-same-length-6 c = search needs
+same-length-6 c = omega arith
 
 returns-3 : tie.Need-returns-3
 returns-3 c =

@@ -1,7 +1,7 @@
 -- `checks::openable` meets its contract: one law of `Refusing` for each return. Assumes nothing.
 use mathlib.Core.Path.{_≡_, sym, ap, _∙_}
 use mathlib.Core.Bool.{false}
-use borrow.Author.Needs.{needs}
+use native.Mathlib.Omega.{arith}
 use Rattle.model.specs.File.{Accepted}
 use Rattle.model.specs.Search.{outside}
 use Rattle.model.proofs.Checks.{too-small, too-large, in-range}
@@ -14,16 +14,16 @@ use Rattle.session.proofs.checks.openable.Statement.{statement}
 use Rattle.session.proofs.checks.openable.Tie as tie
 
 read-requires : tie.Need-read-requires
-read-requires c κs = search needs
+read-requires c κs = omega arith
 
 enum-told : tie.Need-enum-told
-enum-told c = search needs
+enum-told c = omega arith
 
 enum-told-2 : tie.Need-enum-told-2
-enum-told-2 c = search needs
+enum-told-2 c = omega arith
 
 unread-requires : tie.Need-unread-requires
-unread-requires c κs = search needs
+unread-requires c κs = omega arith
 
 abbrev start : tie.After-enum-told → tie.Start
 start c = c .before .before .before .before
