@@ -42,8 +42,8 @@ Holds (searched f q a) = SearchIs f q 64 4096 a
 Holds (listed ii xs ls) = listing ii xs ≡ ls
 Holds (called f ii horizon cs rs xs rows) = Called f ii horizon cs rs xs rows
 
--- every case of the list holds: the first, and the others
 infixr 20 _also_
+-- every case of the list holds: the first, and the others
 pub data AllHold : List Case → Type 0 where
   no-more : AllHold []
   _also_ : {c : Case} {cs : List Case} → Holds c → AllHold cs → AllHold (c ∷ cs)

@@ -75,15 +75,17 @@ startWords xs = map (λ o. startWord (getD xs o none)) (upFrom 0 64)
 abbrev pub endWords : List Call → Setup → List ℕ
 endWords cs u = length cs ∷ length (after u cs (start u) .checkpoints) ∷ 0 ∷ 0 ∷ 0 ∷ 0 ∷ 0 ∷ []
 
--- the lists of replies, starts and rows afterwards: those of the model after all calls; as they were where the whole is refused
+-- the list of replies afterwards: the model's answers to all calls; as it was where the whole is refused
 abbrev pub repliesLeft : List Call → Answer Setup → List ℕ → List ℕ
 repliesLeft cs (answered u) old = written 0 (allWords (replies u cs (start u))) old
 repliesLeft cs (refused r) old = old
 
+-- the starts afterwards, likewise
 abbrev pub startsLeft : List Call → Answer Setup → List ℕ → List ℕ
 startsLeft cs (answered u) old = written 0 (startWords (after u cs (start u) .starts)) old
 startsLeft cs (refused r) old = old
 
+-- the rows afterwards: the table of those starts, and later rows as they were
 abbrev pub rowsLeft : List Call → Answer Setup → List ℕ → List ℕ
 rowsLeft cs (answered u) old = stateTable u (after u cs (start u)) ++ drop (u .ii) old
 rowsLeft cs (refused r) old = old

@@ -1,5 +1,5 @@
 // Reserving and releasing the cells of an operation, bit by bit. The number of the operation's first use, `first`, is handed in: it is worked out once for each chosen
-// operation, which is reserved and released at many starts.
+// operation, which is reserved and released at many starts. Internal: each function asks that the cells are clear, or set.
 use loop_access::duration;
 use loop_access::offset;
 use loop_access::slot;

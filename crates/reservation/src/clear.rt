@@ -1,4 +1,4 @@
-// Clearing a table.
+// Clearing a table. Internal: asks that it has so many rows.
 ghost use mathlib.Core.Path.{_≡_};
 ghost use mathlib.Core.List.{_++_};
 ghost use Prim.Native.Nat.{_≤_};

@@ -1,4 +1,4 @@
-// Dependences of an operation, in signed arithmetic.
+// Dependences of an operation, in signed arithmetic. Internal: each function asks for an accepted file, and for starts and an interval in range.
 use crate::Broken;
 use loop_access::delay;
 use loop_access::dep_count;

@@ -1,4 +1,4 @@
-// Two operations at given starts: whether they meet in a cell; and one against itself.
+// Two operations at given starts: whether they meet in a cell; and one against itself. Internal: each function asks for an accepted file, and for starts and an interval in range.
 use loop_access::duration;
 use loop_access::first_use;
 use loop_access::offset;

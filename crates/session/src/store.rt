@@ -1,4 +1,4 @@
-// The session's own copy of its file.
+// The session's own copy of its file. Internal: asks for a file that is not too long.
 ghost use mathlib.Core.Path.{_≡_};
 ghost use mathlib.Core.List.{_++_};
 ghost use Prim.Native.Nat.{_≤_};

@@ -90,7 +90,7 @@ sub-t32 : tie.Need-sub-t32
 sub-t32 c =
     let m = c .before .before .before in
     let w = found-at m in
-    found-ranged (entry w .pre) (come w) _ _ (m .swept .given .1) .2
+    omega (arith, found-ranged (entry w .pre) (come w) _ _ (m .swept .given .1) .2)
 
 enum-known-swept-2 : tie.Need-enum-known-swept-2
 enum-known-swept-2 c = omega arith
