@@ -1,5 +1,5 @@
-// The library's C functions against plain Rust, in one process and on the same inputs: the benchmark of calls. It prints a
-// line of JSON for each row that is asked for; bench/run makes tables of them.
+// The library's C functions against plain Rust (bindings/plain), in one process and on the same inputs: the benchmark of
+// calls. It prints a line of JSON for each row that is asked for; bench/run makes tables of them.
 //
 //     library TURNS ROW..
 //
@@ -11,8 +11,9 @@
 //     rustc --edition 2021 -C opt-level=3 -C codegen-units=1 -L target/staticlib bench/library.rs -o target/bench/library
 
 mod calls;
+#[allow(dead_code)] // not all of it is measured
+#[path = "../bindings/plain/src/lib.rs"]
 mod plain;
-mod session;
 mod sides;
 #[allow(dead_code)] // not every function is measured
 #[path = "../bindings/rust/src/sys.rs"]
@@ -124,7 +125,7 @@ fn bounds_row(turns: usize, path: &str) -> Result<(), String> {
 
 fn session_row(turns: usize, interval: usize, spread: usize, path: &str) -> Result<(), String> {
     let (name, file) = read(path)?;
-    let ops = plain::parse(&file).map_or(0, |code| code.ops.len());
+    let ops = plain::file::read(&file).map_or(0, |code| code.operations.len());
     let calls = draw_calls(ops, spread);
     let m = compare(
         turns,

@@ -1,11 +1,16 @@
-// The program `schedule` in plain Rust (bench/plain.rs), with nothing proved: the other side of the benchmark of
-// programs. It reads a loop file from standard input and prints what `schedule` prints.
+// The program `schedule` in plain Rust (bindings/plain), with nothing proved: the other side of the benchmark of programs.
+// It reads a loop file from standard input and prints what `schedule` prints.
 //
-//     rustc --edition 2021 -C opt-level=3 bench/search.rs -o target/bench/search
+//     rustc --edition 2021 -C opt-level=3 -C codegen-units=1 bench/search.rs -o target/bench/search
 
+#[allow(dead_code)] // not all of it is used here
+#[path = "../bindings/plain/src/lib.rs"]
 mod plain;
 
-use plain::{parse, schedule, Loop, Refusal, Request, Schedule, LONGEST, ROWS};
+use plain::file::{read, FILE_MOST};
+use plain::places::{cycle, order, stage};
+use plain::search::{of_loop, Found, NotFound, Request};
+use plain::LONGEST;
 use std::io::{self, BufWriter, Read, Write};
 
 // The request that `schedule` makes.
@@ -15,32 +20,25 @@ const ASKED: Request = Request {
     budget: 1_000_000,
 };
 
-fn print(out: &mut impl Write, code: &Loop, s: &Schedule) -> io::Result<()> {
-    let end = s
-        .starts
-        .iter()
-        .zip(&code.ops)
-        .map(|(start, op)| start + op.latency)
-        .max()
-        .unwrap_or(0);
+// The schedule of a file: what was found, and the start of each operation.
+fn schedule(file: &[u8]) -> Result<(Found, Vec<u16>), NotFound> {
+    let code = read(file)?;
+    let mut starts = vec![0; code.operations.len()];
+    let mut rows = vec![0; LONGEST];
+    let found = of_loop(&code, ASKED, &mut starts, &mut rows)?;
+    Ok((found, starts))
+}
+
+fn print(out: &mut impl Write, found: &Found, starts: &[u16]) -> io::Result<()> {
     writeln!(
         out,
         "interval {} resource {} recurrence {} stages {} probes {}",
-        s.interval,
-        s.resource,
-        s.recurrence,
-        (end + 1).div_ceil(s.interval),
-        s.probes
+        found.interval, found.bounds.resource, found.bounds.recurrence, found.stages, found.probes
     )?;
-    let place = |op: usize| (s.starts[op] / s.interval, s.starts[op] % s.interval);
-    for (op, start) in s.starts.iter().enumerate() {
-        let (stage, cycle) = place(op);
-        let order = (0..s.starts.len())
-            .filter(|&p| {
-                let (other, at) = place(p);
-                other == stage && (at, p) < (cycle, op)
-            })
-            .count();
+    for (op, &start) in starts.iter().enumerate() {
+        let stage = stage(found.interval, start.into());
+        let cycle = cycle(found.interval, start.into());
+        let order = order(found.interval, starts, op);
         writeln!(
             out,
             "op {op} start {start} stage {stage} cycle {cycle} order {order}"
@@ -52,13 +50,15 @@ fn print(out: &mut impl Write, code: &Loop, s: &Schedule) -> io::Result<()> {
 fn main() -> io::Result<()> {
     let mut file = Vec::new();
     io::stdin()
-        .take(LONGEST as u64 + 1)
+        .take(FILE_MOST as u64 + 1)
         .read_to_end(&mut file)?;
-    let mut rows = vec![0; ROWS];
     let mut out = BufWriter::new(io::stdout().lock());
-    match parse(&file).and_then(|code| schedule(&code, ASKED, &mut rows).map(|s| (code, s))) {
-        Ok((code, s)) => print(&mut out, &code, &s)?,
-        Err(Refusal(number, detail)) => writeln!(out, "refused {number} at {detail}")?,
+    match schedule(&file) {
+        Ok((found, starts)) => print(&mut out, &found, &starts)?,
+        Err(none) => {
+            let refusal = none.refusal;
+            writeln!(out, "refused {} at {}", refusal.number, refusal.detail)?
+        }
     }
     out.flush()
 }

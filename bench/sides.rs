@@ -4,8 +4,11 @@
 // What the header asks of a caller holds in each unsafe block: a pointer is that of a slice or an array, goes with its length
 // (eight numbers for an answer, 64 starts for a session), and what is written overlaps nothing.
 
-use crate::plain::{parse, schedule, Refusal, Request, ROWS};
-use crate::session::{replay, Starts};
+use crate::plain::bounds::bounds;
+use crate::plain::replay::replay;
+use crate::plain::search::{search, Request};
+use crate::plain::session::Starts;
+use crate::plain::{Refusal, LONGEST};
 use crate::sys::{mw_bounds, mw_search, mw_session};
 
 // The cap and the budget of every search, and the horizon of every session.
@@ -32,25 +35,32 @@ impl Memory {
             result: usize::MAX,
             answer: [u64::MAX; 8],
             starts: [12345; 64],
-            rows: vec![u64::MAX; ROWS],
+            rows: vec![u64::MAX; LONGEST],
             replies: vec![u64::MAX; 2 * n],
         }
     }
 
-    // A result, and an answer that begins with these words.
-    fn write(&mut self, result: usize, words: &[usize]) {
-        self.result = result;
+    // A result of 0, and an answer that has these words after the first.
+    fn accept(&mut self, words: &[usize]) {
+        self.result = 0;
         self.answer = [0; 8];
-        for (to, &word) in self.answer.iter_mut().zip(words) {
+        for (to, &word) in self.answer[1..].iter_mut().zip(words) {
             *to = word as u64;
         }
+    }
+
+    // The number and the detail of a refusal.
+    fn refuse(&mut self, refusal: Refusal) {
+        self.accept(&[]);
+        self.result = refusal.number;
+        self.answer[0] = refusal.detail as u64;
     }
 }
 
 pub fn rust_bounds(file: &[u8], m: &mut Memory) {
-    match parse(file).and_then(|code| code.bounds()) {
-        Ok((resource, recurrence)) => m.write(0, &[0, resource, recurrence]),
-        Err(Refusal(number, detail)) => m.write(number, &[detail]),
+    match bounds(file) {
+        Ok(b) => m.accept(&[b.resource, b.recurrence]),
+        Err(refusal) => m.refuse(refusal),
     }
 }
 
@@ -58,17 +68,24 @@ pub fn proved_bounds(file: &[u8], m: &mut Memory) {
     m.result = unsafe { mw_bounds(file.as_ptr(), file.len(), &mut m.answer) };
 }
 
-// Only refusal 11 is told in full, since the benchmark takes no loop that ends in another way.
 pub fn rust_search(file: &[u8], horizon: usize, m: &mut Memory) {
     let asked = Request {
         cap: CAP,
         horizon,
         budget: BUDGET,
     };
-    match parse(file).and_then(|code| schedule(&code, asked, &mut m.rows)) {
-        Err(Refusal(11, interval)) => m.write(11, &[interval, 0, 0, 0, 0, BUDGET]),
-        Err(Refusal(number, detail)) => m.write(number, &[detail]),
-        Ok(_) => m.write(0, &[]),
+    match search(file, asked, &mut m.starts, &mut m.rows) {
+        Ok(f) => m.accept(&[
+            f.interval,
+            f.bounds.resource,
+            f.bounds.recurrence,
+            f.stages,
+            f.probes,
+        ]),
+        Err(none) => {
+            m.refuse(none.refusal);
+            m.answer[5] = none.probes.unwrap_or(0) as u64;
+        }
     }
 }
 
@@ -100,8 +117,8 @@ pub fn rust_session(file: &[u8], interval: usize, calls: &[u64], m: &mut Memory)
         &mut m.starts,
     );
     match ended {
-        Ok((n, open)) => m.write(0, &[0, n, open]),
-        Err(Refusal(number, detail)) => m.write(number, &[detail]),
+        Ok(r) => m.accept(&[r.calls, r.checkpoints]),
+        Err(refusal) => m.refuse(refusal),
     }
 }
 

@@ -1,17 +1,16 @@
 //! The worked examples of the rules, by number, and the listings of the example files, through the safe functions.
 
-mod plain;
-
 use mwelitunga::{
     bounds, read, replay, search, verify, Bounds, Call, Counts, Refusal, Reply, Request, Verdict,
 };
-use plain::file::{write, Dependence, Loop, Operation, Use};
+use plain::file::{Dependence, Loop, Operation, Use};
+use plain::writer::write;
 
 /// An operation: its latency, and its uses by slot and duration.
 type Op<'a> = (u8, &'a [(u8, u8)]);
 
 /// A dependence: from, to, delay, distance.
-type Dep = (usize, usize, i64, i64);
+type Dep = (usize, usize, i32, i32);
 
 /// The file of a loop.
 fn file(operations: &[Op], dependences: &[Dep]) -> Vec<u8> {
@@ -249,7 +248,7 @@ fn case_12_force_and_rollback() {
 #[test]
 fn case_13_the_largest_recurrence_bound() {
     let ring: Vec<Dep> = (0..64)
-        .map(|op| (op, (op + 1) % 64, 64, i64::from(op == 63)))
+        .map(|op| (op, (op + 1) % 64, 64, i32::from(op == 63)))
         .collect();
     assert_eq!(recurrence(&only_dependences(64, &ring)), 4096);
 }

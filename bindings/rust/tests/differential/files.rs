@@ -2,21 +2,23 @@
 
 use crate::random::{self, damage, loops, Random};
 use crate::tally::Tally;
-use crate::{expected, lent, plain};
+use crate::{definitions, expected, lent, safe};
 
 /// Reads a file and takes its bounds in all ways.
 fn compare(random: &mut Random, file: &[u8], reads: &mut Tally, bounds: &mut Tally) {
-    let described = plain::file::read(file).map(|described| plain::file::counts(&described));
-    reads.result("read", &described);
-    assert_eq!(mwelitunga::read(file), described, "{file:?}");
-    let told = expected(&described, |counts| {
+    let counts = plain::file::read(file).map(|described| safe::counts(&described));
+    reads.result("read", &counts);
+    let answered = counts.map_err(safe::refusal);
+    assert_eq!(mwelitunga::read(file), answered, "{file:?}");
+    let told = expected(&counts, |counts| {
         vec![counts.operations, counts.uses, counts.dependences]
     });
     assert_eq!(lent::read(random, file), told, "{file:?}");
 
     let bounded = plain::bounds::bounds(file);
     bounds.result("bounded", &bounded);
-    assert_eq!(mwelitunga::bounds(file), bounded, "{file:?}");
+    let answered = bounded.map(safe::bounds).map_err(safe::refusal);
+    assert_eq!(mwelitunga::bounds(file), answered, "{file:?}");
     let told = expected(&bounded, |bounds| vec![bounds.resource, bounds.recurrence]);
     assert_eq!(lent::bounds(random, file), told, "{file:?}");
 }
@@ -62,7 +64,7 @@ fn files_near_loop_a() {
     bounds.refusals_at_least(5, &[8]);
 }
 
-/// The plain recurrence bound by its definition against that by its quotients, over small loops.
+/// The plain recurrence bound against the quotients of the circles, over small loops.
 #[test]
 fn recurrence_bounds() {
     let mut tally = Tally::new("quotients");
@@ -70,7 +72,7 @@ fn recurrence_bounds() {
         let described = loops::small(random);
         if described.dependences.len() <= 9 {
             let bounds = plain::bounds::of_loop(&described);
-            let by_quotients = plain::bounds::by_quotients(&described);
+            let by_quotients = definitions::by_quotients(&described);
             tally.result("bounded", &bounds);
             assert_eq!(
                 bounds.map(|bounds| bounds.recurrence).ok(),

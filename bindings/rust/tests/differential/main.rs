@@ -1,5 +1,6 @@
-//! The library, through the raw and the safe layer, against the plain implementation: thousands of random cases, each
-//! compared in full, the answer as well as all memory that was lent.
+//! The library, through the raw and the safe layer, against the plain implementation (`bindings/plain`): thousands of random
+//! cases, each compared in full, the answer as well as all memory that was lent. Where a loop is small the plain
+//! implementation is itself held to the definitions as they stand.
 //!
 //! The cases are the same in every run. A failure names its case and seed; `MWELITUNGA_TEST_SEED` gives another seed, and
 //! `MWELITUNGA_TEST_ROUNDS` so many times as many cases. What came out is counted, and printed with `--nocapture`:
@@ -9,12 +10,12 @@
 //! delay is 4,096 at most; where its distance is 1 or more it asks for an interval of 4,096 at most, and where its
 //! distance is 0, a delay above 0 is refused by 8 before.
 
+mod definitions;
 mod files;
 mod lent;
 mod places;
-#[path = "../plain/mod.rs"]
-mod plain;
 mod random;
+mod safe;
 mod searches;
 mod sessions;
 mod tally;
@@ -22,7 +23,7 @@ mod verdicts;
 
 use lent::Told;
 use mwelitunga::sys::Answer;
-use mwelitunga::Refusal;
+use plain::Refusal;
 
 /// What a C function is expected to tell: the numbers of an answer after the first, or a refusal.
 fn expected<T>(plain: &Result<T, Refusal>, numbers: impl FnOnce(&T) -> Vec<usize>) -> Told {
@@ -35,7 +36,7 @@ fn expected<T>(plain: &Result<T, Refusal>, numbers: impl FnOnce(&T) -> Vec<usize
             (0, answer)
         }
         Err(refusal) => {
-            answer[0] = refusal.detail;
+            answer[0] = refusal.detail as u64;
             (refusal.number, answer)
         }
     }

@@ -1,9 +1,9 @@
 //! Stage, cycle and order, for any numbers.
 
-use crate::plain::places;
 use crate::random::{self, Random};
 use crate::tally::Tally;
 use mwelitunga::{cycle, order, stage};
+use plain::places;
 
 /// An interval of any size, also 0.
 fn any_interval(random: &mut Random) -> usize {

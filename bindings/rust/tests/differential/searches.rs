@@ -1,13 +1,15 @@
 //! The search, with its lent list and table.
 
 use crate::lent::{self, Lent};
-use crate::plain::file::Loop;
 use crate::random::{self, damage, loops, Random};
 use crate::tally::Tally;
-use crate::{expected, plain};
-use mwelitunga::{search, search_in, Found, Request, Schedule, SearchError};
+use crate::{definitions, expected, safe};
+use mwelitunga::Schedule;
+use plain::file::{read, Loop};
+use plain::search::{search, Found, NotFound, Request};
+use plain::writer::write;
 
-/// The rows that a search clears.
+/// The rows that a search asks for.
 const ROWS: usize = 4096;
 
 /// What is lent to a search.
@@ -35,19 +37,6 @@ impl Memory {
             starts: Lent::new(random, starts),
             rows: Lent::new(random, rows),
         }
-    }
-
-    /// What a search is to leave: the starts where it found some, and cleared rows where it was made.
-    fn left(mut self, plain: &Result<Schedule, SearchError>) -> Memory {
-        match plain {
-            Ok(schedule) => {
-                self.starts.write(&schedule.starts);
-                self.rows.write(&[0; ROWS]);
-            }
-            Err(error) if error.probes.is_some() => self.rows.write(&[0; ROWS]),
-            Err(_) => (),
-        }
-        self
     }
 }
 
@@ -82,37 +71,37 @@ fn any_request(random: &mut Random) -> Request {
     request
 }
 
-/// What `search_in` answers for a schedule.
-fn found(schedule: &Schedule) -> Found {
-    Found {
-        interval: schedule.interval,
-        bounds: schedule.bounds,
-        stages: schedule.stages,
-        probes: schedule.probes,
-    }
-}
-
 /// What the C function tells.
-fn told(plain: &Result<Schedule, SearchError>) -> lent::Told {
-    let refusal = plain.clone().map_err(|error| error.refusal);
-    let mut told = expected(&refusal, |schedule| {
-        let bounds = schedule.bounds;
+fn told(plain: &Result<Found, NotFound>) -> lent::Told {
+    let mut told = expected(&plain.map_err(|none| none.refusal), |found| {
         vec![
-            schedule.interval,
-            bounds.resource,
-            bounds.recurrence,
-            schedule.stages,
-            schedule.probes,
+            found.interval,
+            found.bounds.resource,
+            found.bounds.recurrence,
+            found.stages,
+            found.probes,
         ]
     });
-    if let Err(error) = plain {
-        told.1[5] = error.probes.unwrap_or(0) as u64;
+    if let Err(none) = plain {
+        told.1[5] = none.probes.unwrap_or(0) as u64;
     }
     told
 }
 
-fn count(tally: &mut Tally, plain: &Result<Schedule, SearchError>) {
-    tally.result("found", &plain.clone().map_err(|error| error.refusal));
+/// What the simple function answers for a schedule whose starts stand first in a list.
+fn schedule(file: &[u8], found: Found, list: &[u16]) -> Schedule {
+    let code = read(file).expect("a file that has a schedule is a loop file");
+    Schedule {
+        interval: found.interval,
+        bounds: safe::bounds(found.bounds),
+        stages: found.stages,
+        probes: found.probes,
+        starts: list[..code.operations.len()].to_vec(),
+    }
+}
+
+fn count(tally: &mut Tally, plain: &Result<Schedule, NotFound>) {
+    tally.result("found", &plain.as_ref().map_err(|none| none.refusal));
     if let Ok(schedule) = plain {
         if schedule.interval > schedule.bounds.larger() {
             tally.count("found above the bounds");
@@ -120,6 +109,26 @@ fn count(tally: &mut Tally, plain: &Result<Schedule, SearchError>) {
         if schedule.starts.len() > 8 {
             tally.count("found for more than 8 operations");
         }
+    }
+}
+
+/// Compares what the plain search came to with the definition, where it was made and the loop has few lists of starts.
+fn compare_defined(
+    file: &[u8],
+    request: Request,
+    plain: &Result<Schedule, NotFound>,
+    tally: &mut Tally,
+) {
+    let answered = match plain {
+        Ok(schedule) => Ok((schedule.interval, schedule.starts.clone(), schedule.probes)),
+        Err(none) if none.probes.is_some() => Err(*none),
+        Err(_) => return,
+    };
+    let code = read(file).expect("a file that was searched is a loop file");
+    if definitions::few_lists(&code, request.horizon) {
+        let defined = definitions::search(&code, request);
+        assert_eq!(answered, defined, "{request:?}, {code:?}");
+        tally.count("compared with the definition");
     }
 }
 
@@ -132,28 +141,28 @@ fn compare(
     tally: &mut Tally,
 ) {
     let mut memory = Memory::new(random, described.operations.len());
-    let mut again = memory.clone();
+    let (mut again, mut left) = (memory.clone(), memory.clone());
     let (list, table) = (memory.starts.part().len(), memory.rows.part().len());
-    let plain = plain::search::search(file, request, list, table);
-    count(tally, &plain);
-    let left = memory.clone().left(&plain);
     let case = format!("{request:?}, list {list}, table {table}, {described:?}");
+    let plain = search(file, request, left.starts.part(), left.rows.part());
 
-    let raw = lent::search(random, file, request, &mut memory.starts, &mut memory.rows);
+    let asked = safe::request(request);
+    let raw = lent::search(random, file, asked, &mut memory.starts, &mut memory.rows);
     assert_eq!(raw, told(&plain), "{case}");
     assert!(memory == left, "other memory is left: {case}");
 
-    let safe = search_in(file, request, again.starts.part(), again.rows.part());
-    assert_eq!(
-        safe,
-        plain.as_ref().map(found).map_err(|error| *error),
-        "{case}"
-    );
+    let answered = mwelitunga::search_in(file, asked, again.starts.part(), again.rows.part());
+    let expected = plain.map(safe::found).map_err(safe::not_found);
+    assert_eq!(answered, expected, "{case}");
     assert!(again == left, "other memory is left: {case}");
 
+    let plain = plain.map(|found| schedule(file, found, left.starts.part()));
+    count(tally, &plain);
+    compare_defined(file, request, &plain, tally);
     // The simple function lends enough always.
-    if !matches!(plain, Err(error) if error.refusal.number == 20) {
-        assert_eq!(search(file, request), plain, "{case}");
+    if !matches!(plain, Err(none) if none.refusal.number == 20) {
+        let expected = plain.map_err(safe::not_found);
+        assert_eq!(mwelitunga::search(file, asked), expected, "{case}");
     }
 }
 
@@ -175,6 +184,7 @@ fn searches() {
     tally.at_least(200, "found above the bounds");
     tally.refusals_at_least(100, &[1, 2, 3, 4, 5, 6]);
     tally.refusals_at_least(500, &[7, 8, 10, 11, 20]);
+    tally.at_least(5000, "compared with the definition");
 }
 
 /// Long searches of loops of up to 64 operations, and of small ones with the largest budget.
@@ -192,7 +202,7 @@ fn long_searches() {
             horizon: random.one_of(&[6, 16, 64, 256, 4096]),
             budget,
         };
-        let file = plain::file::write(&described);
+        let file = write(&described);
         compare(random, &described, &file, request, &mut tally);
     });
     tally.print();

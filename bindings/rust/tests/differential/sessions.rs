@@ -1,15 +1,15 @@
 //! The session: lists of calls, with everything that is lent to a replay.
 
 use crate::lent::{self, Lent, SessionMemory};
-use crate::plain::session::{self, Ended};
 use crate::random::calls::{self, About};
 use crate::random::{self, damage, loops, Random};
 use crate::tally::Tally;
-use crate::{expected, plain};
-use mwelitunga::{replay, Call, Refusal, Replay, Reply};
-
-/// The start that stands for an operation that is not placed.
-const NOWHERE: u16 = 65_535;
+use crate::{expected, safe};
+use mwelitunga::{Call, Replay, Reply};
+use plain::file::read;
+use plain::replay::{replay, Replayed};
+use plain::session::NOT_PLACED;
+use plain::Refusal;
 
 /// A file with the interval and the horizon of a session on it.
 struct Opening {
@@ -46,18 +46,33 @@ fn any_memory(random: &mut Random, opening: &Opening, calls: &[u64]) -> SessionM
     }
 }
 
-/// What a replay is to leave: nothing is written where it is refused.
-fn left(mut memory: SessionMemory, plain: &Result<Ended, Refusal>) -> SessionMemory {
-    if let Ok(ended) = plain {
-        let mut starts = [NOWHERE; 64];
-        for (room, start) in starts.iter_mut().zip(&ended.starts) {
-            *room = start.map_or(NOWHERE, |start| start as u16);
-        }
-        memory.starts.write(&starts);
-        memory.rows.write(&ended.rows);
-        memory.replies.write(&ended.replies);
+/// The replay of the plain implementation.
+fn plain_replay(
+    opening: &Opening,
+    calls: &[u64],
+    memory: &mut SessionMemory,
+) -> Result<Replayed, Refusal> {
+    let starts = memory.starts.part();
+    replay(
+        &opening.file,
+        opening.interval,
+        opening.horizon,
+        calls,
+        memory.rows.part(),
+        memory.replies.part(),
+        starts.try_into().expect("64 starts are lent"),
+    )
+}
+
+/// What the two numbers of a reply mean.
+fn result(reply: &[u64]) -> Result<u64, Refusal> {
+    match reply[0] {
+        0 => Ok(reply[1]),
+        number => Err(Refusal {
+            number: number as usize,
+            detail: reply[1] as usize,
+        }),
     }
-    memory
 }
 
 /// The calls of a list of numbers, where each is a call.
@@ -78,30 +93,41 @@ fn safe_calls(numbers: &[u64]) -> Option<Vec<Call>> {
     calls.collect()
 }
 
-/// What the safe layer is to answer.
-fn safe_replay(calls: &[Call], ended: Ended) -> Replay {
-    let pairs = ended.replies.chunks(2);
-    let replies = calls.iter().zip(pairs).map(|(call, pair)| match pair[0] {
-        0 => Ok(match call {
-            Call::Force { .. } => Reply::Displaced(pair[1]),
-            Call::Checkpoint => Reply::Checkpoint(pair[1] as usize),
-            _ => Reply::Done,
-        }),
-        number => Err(Refusal {
-            number: number as usize,
-            detail: pair[1],
-        }),
-    });
-    Replay {
-        replies: replies.collect(),
-        starts: ended
-            .starts
-            .iter()
-            .map(|start| start.map(|start| start as u16))
+/// What the safe layer is to answer: it lends as much as is needed.
+fn safe_replay(opening: &Opening, numbers: &[u64], calls: &[Call]) -> Result<Replay, Refusal> {
+    let mut rows = vec![0; opening.interval.min(4096)];
+    let mut replies = vec![0; 2 * calls.len()];
+    let mut starts = [0; 64];
+    let replayed = replay(
+        &opening.file,
+        opening.interval,
+        opening.horizon,
+        numbers,
+        &mut rows,
+        &mut replies,
+        &mut starts,
+    )?;
+    let operations = read(&opening.file)?.operations.len();
+    let placed = |&start: &u16| (start != NOT_PLACED).then_some(start);
+    let replies = calls.iter().zip(replies.chunks(2));
+    Ok(Replay {
+        replies: replies
+            .map(|(call, reply)| safe_reply(call, reply))
             .collect(),
-        checkpoints: ended.checkpoints,
-        rows: ended.rows,
-    }
+        starts: starts[..operations].iter().map(placed).collect(),
+        checkpoints: replayed.checkpoints,
+        rows,
+    })
+}
+
+/// The answer of the safe layer to one call.
+fn safe_reply(call: &Call, reply: &[u64]) -> Result<Reply, mwelitunga::Refusal> {
+    let value = result(reply).map_err(safe::refusal)?;
+    Ok(match call {
+        Call::Force { .. } => Reply::Displaced(value),
+        Call::Checkpoint => Reply::Checkpoint(value as usize),
+        _ => Reply::Done,
+    })
 }
 
 /// The kinds of calls, by their numbers from 1.
@@ -121,20 +147,15 @@ struct Tallies {
 }
 
 impl Tallies {
-    fn count(&mut self, calls: &[u64], plain: &Result<Ended, Refusal>) {
+    fn count(&mut self, calls: &[u64], plain: &Result<Replayed, Refusal>, replies: &[u64]) {
         self.replays.result("replayed", plain);
-        let Ok(ended) = plain else { return };
-        for (call, reply) in calls.chunks(3).zip(ended.replies.chunks(2)) {
-            let kind = KINDS[call[0] as usize - 1];
-            let result = match reply[0] {
-                0 => Ok(reply[1]),
-                number => Err(Refusal {
-                    number: number as usize,
-                    detail: reply[1],
-                }),
-            };
-            self.calls.result(kind, &result);
-            if let (2, Ok(displaced)) = (call[0], result) {
+        if plain.is_err() {
+            return;
+        }
+        for (call, reply) in calls.chunks(3).zip(replies.chunks(2)) {
+            let answered = result(reply);
+            self.calls.result(KINDS[call[0] as usize - 1], &answered);
+            if let (2, Ok(displaced)) = (call[0], answered) {
                 self.count_displaced(displaced);
             }
         }
@@ -156,25 +177,24 @@ impl Tallies {
 /// Replays a list once in each way, and compares answers and memory.
 fn compare(random: &mut Random, opening: &Opening, calls: &[u64], tallies: &mut Tallies) {
     let mut memory = any_memory(random, opening, calls);
-    let (rows, replies) = (memory.rows.part().len(), memory.replies.part().len());
-    let plain = session::replay(&opening.file, opening.numbers(), calls, rows, replies);
-    tallies.count(calls, &plain);
-    let left = left(memory.clone(), &plain);
+    let mut left = memory.clone();
+    let plain = plain_replay(opening, calls, &mut left);
+    tallies.count(calls, &plain, left.replies.part());
     let case = || {
-        let described = plain::file::read(&opening.file);
+        let described = read(&opening.file);
         format!("{calls:?} at {:?} of {described:?}", opening.numbers())
     };
-    let number = calls.len() / 3;
-    let told = expected(&plain, |ended| vec![number, ended.checkpoints]);
+    let told = expected(&plain, |replayed| {
+        vec![replayed.calls, replayed.checkpoints]
+    });
     let raw = lent::session(random, &opening.file, opening.numbers(), calls, &mut memory);
     assert_eq!(raw, told, "{}", case());
     assert_eq!(memory, left, "other memory is left: {}", case());
 
     if let Some(safe) = safe_calls(calls) {
-        let rows = opening.interval.min(4096);
-        let plain = session::replay(&opening.file, opening.numbers(), calls, rows, 2 * number);
-        let plain = plain.map(|ended| safe_replay(&safe, ended));
-        let answered = replay(&opening.file, opening.interval, opening.horizon, &safe);
+        let plain = safe_replay(opening, calls, &safe).map_err(safe::refusal);
+        let [interval, horizon] = opening.numbers();
+        let answered = mwelitunga::replay(&opening.file, interval, horizon, &safe);
         assert_eq!(answered, plain, "{}", case());
     }
 }

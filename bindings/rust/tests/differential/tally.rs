@@ -3,7 +3,7 @@
 use std::collections::BTreeMap;
 use std::fmt::Debug;
 
-use mwelitunga::Refusal;
+use plain::Refusal;
 
 /// How often each thing came out of one function.
 pub struct Tally {

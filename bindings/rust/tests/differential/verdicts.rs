@@ -1,19 +1,18 @@
 //! The verdict on proposed starts.
 
-use crate::plain::bounds::earliest;
-use crate::plain::file::{self, Loop};
-use crate::plain::legality;
 use crate::random::{self, damage, loops, Random};
 use crate::tally::Tally;
-use crate::{expected, lent};
-use mwelitunga::Verdict;
+use crate::{definitions, expected, lent, safe};
+use plain::bounds::{self, earliest};
+use plain::file::{self, Loop};
+use plain::verifier::{self, Verdict};
 
 /// An interval: small mostly, the bound of the loop's dependences now and then, and out of range at times.
 fn any_interval(random: &mut Random, described: &Loop) -> usize {
     match random.below(16) {
         0 => random.extreme(),
         1 => random.one_of(&[4095, 4096]),
-        2..=6 => crate::plain::bounds::of_loop(described).map_or(5, |bounds| bounds.larger()),
+        2..=6 => bounds::of_loop(described).map_or(5, |bounds| bounds.larger()),
         7 => random.within(1..=4096),
         _ => random.within(1..=12),
     }
@@ -76,15 +75,17 @@ fn verdicts() {
         let file = damage::mostly_whole(random, &described);
         let interval = any_interval(random, &described);
         let starts = any_starts(random, &described, interval);
-        let plain = legality::verify(&file, interval, &starts);
+        let plain = verifier::verify(&file, interval, &starts);
         tally.result("answered", &plain);
-        if let Ok(verdict) = &plain {
-            count(&mut tally, verdict);
-        }
         let case = || format!("{starts:?} at {interval} of {:?}", file::read(&file));
+        if let (Ok(verdict), Ok(code)) = (&plain, &file::read(&file)) {
+            count(&mut tally, verdict);
+            let legal = definitions::is_legal(code, interval, &starts);
+            assert_eq!(*verdict == Verdict::Legal, legal, "{}", case());
+        }
         assert_eq!(
             mwelitunga::verify(&file, interval, &starts),
-            plain,
+            plain.map(safe::verdict).map_err(safe::refusal),
             "{}",
             case()
         );

@@ -1,7 +1,8 @@
 //! Files that are mostly no loop files: each is a loop's file with something wrong in it.
 
 use super::{loops, Random};
-use crate::plain::file::{assemble, body_bytes, write, Loop, HEAD};
+use plain::file::{Loop, HEAD};
+use plain::writer::{assemble, body_bytes, write};
 
 /// A loop's file, or now and then a damaged one.
 pub fn mostly_whole(random: &mut Random, described: &Loop) -> Vec<u8> {

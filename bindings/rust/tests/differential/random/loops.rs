@@ -1,7 +1,7 @@
 //! Random loops within the rules of the file.
 
 use super::Random;
-use crate::plain::file::{Dependence, Loop, Operation, Use};
+use plain::file::{Dependence, Loop, Operation, Use};
 
 /// How the numbers of a loop are drawn.
 struct Style {
@@ -12,7 +12,7 @@ struct Style {
     /// Durations are 1 up to this one.
     durations: usize,
     /// Delays are from this number below 0 to this one above.
-    delays: [i64; 2],
+    delays: [i32; 2],
     /// Distances are 0 up to this one.
     distances: usize,
     /// One dependence in so many may lead back within an iteration.
@@ -148,6 +148,6 @@ fn dependence(random: &mut Random, style: &Style, operations: usize) -> Dependen
         from,
         to,
         delay: if alone { -delay.abs() } else { delay },
-        distance: distance as i64,
+        distance: distance as i32,
     }
 }

@@ -36,9 +36,9 @@ impl Random {
     }
 
     /// A signed number of a range.
-    pub fn signed(&mut self, range: RangeInclusive<i64>) -> i64 {
+    pub fn signed(&mut self, range: RangeInclusive<i32>) -> i32 {
         let wide = (range.end() - range.start()) as usize;
-        range.start() + self.below(wide + 1) as i64
+        range.start() + self.below(wide + 1) as i32
     }
 
     /// True once in so many times.

@@ -1,4 +1,4 @@
-//! Stage, cycle, order and the stage count.
+//! Where in the schedule an operation stands: stage, cycle and order, and the number of stages.
 
 use super::file::Loop;
 
@@ -12,26 +12,22 @@ pub fn cycle(interval: usize, start: usize) -> usize {
     start.checked_rem(interval).unwrap_or(start)
 }
 
-/// The order of an operation in its stage; one past the list starts at 0.
+/// The order of an operation: how many of the same stage have a smaller cycle, or the same cycle and a smaller number.
+/// An operation past the list starts at 0.
 pub fn order(interval: usize, starts: &[u16], op: usize) -> usize {
     let place = |start: usize| (stage(interval, start), cycle(interval, start));
     let (own_stage, own_cycle) = place(starts.get(op).map_or(0, |&start| start.into()));
     let before = |&(other, &start): &(usize, &u16)| {
         let (stage, cycle) = place(start.into());
-        stage == own_stage && (cycle < own_cycle || (cycle == own_cycle && other < op))
+        stage == own_stage && (cycle, other) < (own_cycle, op)
     };
     starts.iter().enumerate().filter(before).count()
 }
 
-/// The stage count of a schedule: with E the largest start + latency, E + 1 divided by the interval, rounded up.
-pub fn stages(described: &Loop, interval: usize, starts: &[usize]) -> usize {
-    let latencies = described
-        .operations
-        .iter()
-        .map(|op| usize::from(op.latency));
-    let ends = latencies
-        .zip(starts)
-        .map(|(latency, start)| latency + start);
+/// The number of stages: with E the largest start + latency, E + 1 divided by the interval, rounded up.
+pub fn stages(code: &Loop, interval: usize, starts: &[u16]) -> usize {
+    let ends = code.operations.iter().zip(starts);
+    let ends = ends.map(|(op, &start)| usize::from(start) + usize::from(op.latency));
     let end = ends.max().expect("a loop has an operation");
     (end + 1).div_ceil(interval)
 }

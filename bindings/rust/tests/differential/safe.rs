@@ -1,0 +1,59 @@
+//! What the plain implementation takes and answers, in the types of the crate.
+
+use mwelitunga::{Bounds, Counts, Found, Refusal, Request, SearchError, Verdict};
+use plain::file::Loop;
+use plain::{bounds, search, verifier};
+
+pub fn refusal(plain: plain::Refusal) -> Refusal {
+    Refusal {
+        number: plain.number,
+        detail: plain.detail as u64,
+    }
+}
+
+pub fn counts(code: &Loop) -> Counts {
+    Counts {
+        operations: code.operations.len(),
+        uses: code.operations.iter().map(|op| op.uses.len()).sum(),
+        dependences: code.dependences.len(),
+    }
+}
+
+pub fn bounds(plain: bounds::Bounds) -> Bounds {
+    Bounds {
+        resource: plain.resource,
+        recurrence: plain.recurrence,
+    }
+}
+
+pub fn verdict(plain: verifier::Verdict) -> Verdict {
+    match plain {
+        verifier::Verdict::Legal => Verdict::Legal,
+        verifier::Verdict::Broken { dependence } => Verdict::Broken { dependence },
+        verifier::Verdict::Conflict { first, second } => Verdict::Conflict { first, second },
+    }
+}
+
+pub fn found(plain: search::Found) -> Found {
+    Found {
+        interval: plain.interval,
+        bounds: bounds(plain.bounds),
+        stages: plain.stages,
+        probes: plain.probes,
+    }
+}
+
+pub fn not_found(plain: search::NotFound) -> SearchError {
+    SearchError {
+        refusal: refusal(plain.refusal),
+        probes: plain.probes,
+    }
+}
+
+pub fn request(plain: search::Request) -> Request {
+    Request {
+        cap: plain.cap,
+        horizon: plain.horizon,
+        budget: plain.budget,
+    }
+}
