@@ -1,3 +1,2 @@
 pub mod Line
-pub mod Input
 pub mod Scan

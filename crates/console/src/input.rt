@@ -3,12 +3,12 @@ use crate::line::text;
 ghost use mathlib.Core.Path.{_≡_};
 ghost use Prim.Native.Nat.{_≤_};
 ghost use lib.ListN.{length};
-ghost use Rattle.console.specs.Input.{Kept};
+ghost use Rattle.io.specs.Counts.{Counts};
 
-// What the whole comes to: so many bytes at the start of the buffer, or a read failed.
-pub enum Input {
-    Whole(usize),
-    Failed,
+// What was read: whether the input came whole, to its end with no read that failed, and how many bytes at the start of the buffer are kept of it.
+pub struct Input {
+    pub whole: bool,
+    pub count: usize,
 }
 
 // What one read came to: there may be more, the input ended, or the read failed.
@@ -53,7 +53,7 @@ fn read_once(bytes: &mut [u8], have: usize) -> Step
 
 // Reads to the end: keeps as many bytes as there is room for, and drops the rest. The loop counts its turns down, since nothing says that an input ends, from a number that no input uses up.
 pub fn read_all(bytes: &mut [u8]) -> Input
-    ensures { λ r. ⌜ Kept r (now (bytes .exit)) ⌝ }
+    ensures { λ r. ⌜ Counts (r .count) (now (bytes .exit)) ⌝ }
     ensures { λ _. ⌜ length (now (bytes .exit)) ≡ length (now (bytes .entry)) ⌝ }
 {
     let mut have = 0;
@@ -65,13 +65,22 @@ pub fn read_all(bytes: &mut [u8]) -> Input
         match went {
             Went::On => {}
             Went::Ended => {
-                return Input::Whole(have);
+                return Input {
+                    whole: true,
+                    count: have,
+                };
             }
             Went::Failed => {
-                return Input::Failed;
+                return Input {
+                    whole: false,
+                    count: have,
+                };
             }
         }
         turns -= 1;
     }
-    Input::Failed
+    Input {
+        whole: false,
+        count: have,
+    }
 }

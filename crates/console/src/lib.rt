@@ -5,6 +5,7 @@ mod scan;
 
 pub use input::Input;
 pub use input::read_all;
+pub use line::form;
 pub use line::number;
 pub use line::print;
 pub use line::text;

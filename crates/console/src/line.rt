@@ -1,6 +1,5 @@
 // A line of the output, put together in lent memory before it is written.
 ghost use mathlib.Core.Path.{_≡_};
-ghost use mathlib.Core.List.{[], _∷_};
 ghost use Prim.Native.Nat.{_-_, min};
 ghost use Rattle.console.specs.Line.{written, after, Numbered};
 
@@ -38,12 +37,50 @@ pub fn number(line: &mut [u8], at: usize, bytes: &[u8], n: usize) -> usize
     text(line, next, &digits[..k])
 }
 
-// Ends a line of n bytes, and writes it to standard output.
-pub fn print(line: &mut [u8], n: usize)
-    ensures { λ _. ⌜ now (line .exit) ≡ written (now (line .entry)) n (10 ∷ []) ⌝ }
-{
-    let end = text(line, n, b"\n");
-    if end <= line.len() {
-        io::write_all(1, &line[..end]);
+// Writes the first n bytes of a line to standard output, or all of it where it has fewer.
+pub fn print(line: &[u8], n: usize) {
+    if n <= line.len() {
+        io::write_all(1, &line[0..n]);
+    } else {
+        io::write_all(1, line);
     }
+}
+
+// The number at a place of the list, or 0 beyond it.
+fn at_or_zero(numbers: &[usize], i: usize) -> usize {
+    if i < numbers.len() { numbers[i] } else { 0 }
+}
+
+// Puts a byte into the line, or the number in place of `%`, as far as there is room; the place after it.
+fn put_byte(line: &mut [u8], at: usize, b: u8, n: usize) -> usize {
+    if b == b'%' {
+        return number(line, at, b"", n);
+    }
+    if at < line.len() {
+        line[at] = b;
+        return at + 1;
+    }
+    at
+}
+
+// Puts a template into the line, with the next number in place of each `%`; the place after it.
+fn fill(line: &mut [u8], template: &[u8], numbers: &[usize]) -> usize {
+    let mut at = 0;
+    let mut next = 0;
+    let mut i = 0;
+    while i < template.len() {
+        at = put_byte(line, at, template[i], at_or_zero(numbers, next));
+        if template[i] == b'%' {
+            next += 1;
+        }
+        i += 1;
+    }
+    at
+}
+
+// Writes a template to standard output, with the next number in place of each `%`: up to 512 bytes.
+pub fn form(template: &[u8], numbers: &[usize]) {
+    let mut line = [0u8; 512];
+    let n = fill(&mut line, template, numbers);
+    print(&line, n);
 }

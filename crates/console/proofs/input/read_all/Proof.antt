@@ -41,7 +41,10 @@ same-length-2 : tie.Need-same-length-2 Inv-loop μ-loop
 same-length-2 c = omega arith
 
 returns-2 : tie.Need-returns-2 Inv-loop μ-loop
-returns-2 c = (tt, omega arith)
+returns-2 c =
+    let r = c .before .before .before .before .read-once in
+    let l : r .result .have ≤ length (r .last .0) = omega arith in
+    ((l, sym (length-take-le (r .result .have) (r .last .0) l)), omega arith)
 
 sub-turns : tie.Need-sub-turns Inv-loop μ-loop
 sub-turns c = omega arith
@@ -56,7 +59,10 @@ same-length-3 : tie.Need-same-length-3 Inv-loop μ-loop
 same-length-3 c = omega arith
 
 returns-3 : tie.Need-returns-3 Inv-loop μ-loop
-returns-3 c = (tt, omega arith)
+returns-3 c =
+    let g = c .before .loop in
+    let l : g .have ≤ length (g .bytes) = omega arith in
+    ((l, sym (length-take-le (g .have) (g .bytes) l)), omega arith)
 
 pub read-all-spec : {M : Type 1} → statement M
 read-all-spec =
