@@ -1,0 +1,2 @@
+// Loops to try the library on.
+pub mod loops;
