@@ -1,6 +1,7 @@
 -- What a drawn loop has. Assumes nothing.
-use mathlib.Core.Bool.{Bool, cond}
+use mathlib.Core.Bool.{Bool, true, cond, _||_}
 use mathlib.Core.Path.{_≡_}
+use mathlib.Core.List.{List}
 use Prim.Native.Nat.{ℕ, _+_, _*_, _%_}
 use lib.Dec.{eqb, ltb, leb}
 use lib.ListN.{getD, set}
@@ -22,9 +23,18 @@ fieldOf d e which = cond (ltb e 6) (cond (ltb which 4) (getD (d .deps) (4 * e + 
 unfoldable pub lagOf : ℕ → ℕ → ℕ
 lagOf interval distance = cond (eqb distance 0) 0 (cond (eqb distance 1) interval (interval + interval))
 
--- whether a dependence holds at two starts: both sides have 6 more, as what stands for the delay
+-- the start of an operation in a list of 6; 65,535 is nowhere
+unfoldable pub startOf : List ℕ → ℕ → ℕ
+startOf starts op = cond (ltb op 6) (getD starts op 0) 65535
+
+-- whether a dependence holds where its operations start at s and t, or one of them is nowhere. Both sides have 6 more, as what stands for the delay
 unfoldable pub holdsAt : Drawn → ℕ → ℕ → ℕ → ℕ → Bool
-holdsAt d e s t interval = leb (s + fieldOf d e 2) (t + lagOf interval (fieldOf d e 3) + 6)
+holdsAt d e s t interval =
+    cond (eqb s 65535 || eqb t 65535) true (leb (s + fieldOf d e 2) (t + lagOf interval (fieldOf d e 3) + 6))
+
+-- the same in a list of starts
+unfoldable pub holdsIn : Drawn → ℕ → List ℕ → ℕ → Bool
+holdsIn d e starts interval = holdsAt d e (startOf starts (fieldOf d e 0)) (startOf starts (fieldOf d e 1)) interval
 
 -- two loops of the same sizes, tried with the same interval and horizon
 pub record SameSizes (d e : Drawn) : Type 0 where

@@ -1,7 +1,7 @@
 // A small loop as it was drawn, and no file.
 ghost use mathlib.Core.Path.{_≡_};
 ghost use Prim.Native.Nat.{_<_, _≤_, _%_, min};
-ghost use Rattle.trial.specs.Drawn.{durationOf, fieldOf, latencyOf, lagOf, holdsAt, SameSizes};
+ghost use Rattle.trial.specs.Drawn.{durationOf, fieldOf, latencyOf, lagOf, startOf, holdsIn, SameSizes};
 
 // n operations, up to 6, and m dependences, up to 6; the interval and the horizon that it is tried with; and the generator's state behind its draws. The duration of operation o on slot s + 1 is
 // at 3 o + s, 0 where it does not use the slot. A dependence is four bytes, as in a file, but its delay stands as 6 more than it is.
@@ -15,6 +15,9 @@ pub struct Drawn {
     pub uses: [u8; 18],
     pub deps: [u8; 24],
 }
+
+// What stands for the start of an operation that is not placed.
+pub const NOWHERE: u16 = 65535;
 
 // A byte as a number.
 fn wide(x: u8) -> usize
@@ -86,10 +89,22 @@ pub fn lag(interval: u16, distance: usize) -> usize
     one + one
 }
 
-// Whether a dependence holds where its first operation starts at s and its second at t.
-pub fn holds(d: Drawn, e: usize, s: u16, t: u16, interval: u16) -> bool
-    ensures { λ r. ⌜ r ≡ holdsAt d e s t interval ⌝ }
+// The start of an operation.
+pub fn start_of(starts: &[u16; 6], op: usize) -> u16
+    ensures { λ r. ⌜ r ≡ startOf (now (starts .entry)) op ⌝ }
 {
+    if op < 6 { starts[op] } else { NOWHERE }
+}
+
+// Whether a dependence holds at these starts, or one of its operations is not placed.
+pub fn holds(d: Drawn, e: usize, starts: &[u16; 6], interval: u16) -> bool
+    ensures { λ r. ⌜ r ≡ holdsIn d e (now (starts .entry)) interval ⌝ }
+{
+    let s = start_of(starts, field(d, e, 0));
+    let t = start_of(starts, field(d, e, 1));
+    if (s == NOWHERE) | (t == NOWHERE) {
+        return true;
+    }
     let due = s as usize + field(d, e, 2);
     let given = t as usize + lag(interval, field(d, e, 3));
     due <= given + 6

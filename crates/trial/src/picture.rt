@@ -1,5 +1,6 @@
 // A plain picture of a reservation table: a cell for each of 3 slots and 8 rows, at 8 times the slot (from 0) plus the row, that counts how often it is painted.
 use crate::drawn::Drawn;
+use crate::drawn::NOWHERE;
 use crate::drawn::duration;
 use std::num::wrapping_add_u8;
 use std::num::wrapping_add_usize;
@@ -37,6 +38,20 @@ pub fn add(picture: &mut [u8; 24], d: Drawn, op: usize, start: u16, interval: u1
     paint(picture, 0, duration(d, op, 0), s, n);
     paint(picture, 1, duration(d, op, 1), s, n);
     paint(picture, 2, duration(d, op, 2), s, n);
+}
+
+// The picture of the operations that are placed.
+pub fn of_starts(d: Drawn, starts: &[u16; 6], interval: u16) -> [u8; 24] {
+    let mut picture = [0u8; 24];
+    let mut op = 0;
+    while op < 6 {
+        let s = starts[op];
+        if s != NOWHERE {
+            add(&mut picture, d, op, s, interval);
+        }
+        op += 1;
+    }
+    picture
 }
 
 // Whether a cell is painted more than once: two operations conflict there, or one with itself.
