@@ -4,7 +4,7 @@ use mathlib.Core.Path.{_≡_}
 use mathlib.Core.List.{List}
 use Prim.Native.Nat.{ℕ, _+_, _*_, _%_}
 use lib.Dec.{eqb, ltb, leb}
-use lib.ListN.{getD, set}
+use lib.ListN.{getD, set, replicate}
 use Rattle.trial.specs.declared.drawn.Drawn.{Drawn}
 
 -- the duration of an operation on a slot, counted from 0
@@ -26,6 +26,14 @@ lagOf interval distance = cond (eqb distance 0) 0 (cond (eqb distance 1) interva
 -- the start of an operation in a list of 6; 65,535 is nowhere
 unfoldable pub startOf : List ℕ → ℕ → ℕ
 startOf starts op = cond (ltb op 6) (getD starts op 0) 65535
+
+-- a list of 6 starts with another one for an operation that it has
+unfoldable pub setAt : List ℕ → ℕ → ℕ → List ℕ
+setAt starts op s = cond (ltb op 6) (set starts op s) starts
+
+-- the starts of two operations, all others nowhere
+unfoldable pub onlyOf : List ℕ → ℕ → ℕ → List ℕ
+onlyOf starts a b = setAt (setAt (replicate 6 65535) a (startOf starts a)) b (startOf starts b)
 
 -- whether a dependence holds where its operations start at s and t, or one of them is nowhere. Both sides have 6 more, as what stands for the delay
 unfoldable pub holdsAt : Drawn → ℕ → ℕ → ℕ → ℕ → Bool

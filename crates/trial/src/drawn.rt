@@ -1,7 +1,7 @@
 // A small loop as it was drawn, and no file.
 ghost use mathlib.Core.Path.{_≡_};
 ghost use Prim.Native.Nat.{_<_, _≤_, _%_, min};
-ghost use Rattle.trial.specs.Drawn.{durationOf, fieldOf, latencyOf, lagOf, startOf, holdsIn, SameSizes};
+ghost use Rattle.trial.specs.Drawn.{durationOf, fieldOf, latencyOf, lagOf, startOf, setAt, onlyOf, holdsIn, SameSizes};
 
 // n operations, up to 6, and m dependences, up to 6; the interval and the horizon that it is tried with; and the generator's state behind its draws. The duration of operation o on slot s + 1 is
 // at 3 o + s, 0 where it does not use the slot. A dependence is four bytes, as in a file, but its delay stands as 6 more than it is.
@@ -94,6 +94,25 @@ pub fn start_of(starts: &[u16; 6], op: usize) -> u16
     ensures { λ r. ⌜ r ≡ startOf (now (starts .entry)) op ⌝ }
 {
     if op < 6 { starts[op] } else { NOWHERE }
+}
+
+// The starts with another one for an operation.
+pub fn with_start(starts: [u16; 6], op: usize, start: u16) -> [u16; 6]
+    ensures { λ r. ⌜ r ≡ setAt starts op start ⌝ }
+{
+    let mut out = starts;
+    if op < 6 {
+        out[op] = start;
+    }
+    out
+}
+
+// The starts of two operations alone.
+pub fn only(starts: &[u16; 6], a: usize, b: usize) -> [u16; 6]
+    ensures { λ r. ⌜ r ≡ onlyOf (now (starts .entry)) a b ⌝ }
+{
+    let alone = with_start([NOWHERE; 6], a, start_of(starts, a));
+    with_start(alone, b, start_of(starts, b))
 }
 
 // Whether a dependence holds at these starts, or one of its operations is not placed.

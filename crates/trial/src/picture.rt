@@ -67,16 +67,6 @@ pub fn twice(picture: &[u8; 24]) -> bool
     found
 }
 
-// Whether operation a at start s conflicts with operation b at start t, or with itself where they are the same.
-pub fn conflict(d: Drawn, a: usize, s: u16, b: usize, t: u16, interval: u16) -> bool {
-    let mut picture = [0u8; 24];
-    add(&mut picture, d, a, s, interval);
-    if a != b {
-        add(&mut picture, d, b, t, interval);
-    }
-    twice(&picture)
-}
-
 // v where a cell is painted, else 0.
 fn worth(picture: &[u8; 24], cell: usize, v: u64) -> u64
     ensures { λ r. ⌜ r ≤ v ⌝ }
