@@ -1,13 +1,16 @@
 // The two lower bounds of a drawn loop.
-use crate::drawn::Drawn;
-use crate::drawn::duration;
-use crate::drawn::field;
-use crate::drawn::lag;
 use std::num::wrapping_add_usize;
 use std::num::wrapping_sub_usize;
+use trial::drawn::Drawn;
+use trial::drawn::duration;
+use trial::drawn::field;
+use trial::drawn::lag;
+ghost use Prim.Native.Nat.{_≤_};
 
 // The larger.
-pub fn larger(a: usize, b: usize) -> usize {
+pub fn larger(a: usize, b: usize) -> usize
+    ensures { λ r. ⌜ b ≤ r ⌝ }
+{
     if a < b { b } else { a }
 }
 
@@ -29,10 +32,10 @@ fn time(times: &[usize; 4], op: usize) -> usize {
 }
 
 // Where a dependence does not hold, its target moves to the first time at which it does; whether it moved.
-fn moved(d: Drawn, e: usize, times: &mut [usize; 4], interval: usize) -> bool {
+fn moved(d: Drawn, e: usize, times: &mut [usize; 4], interval: u16) -> bool {
     let to = field(d, e, 1);
     let due = wrapping_add_usize(time(times, field(d, e, 0)), field(d, e, 2));
-    let less = wrapping_add_usize(lag(interval, field(d, e, 3)), 3);
+    let less = lag(interval, field(d, e, 3)) + 6;
     if due <= wrapping_add_usize(time(times, to), less) {
         return false;
     }
@@ -43,7 +46,7 @@ fn moved(d: Drawn, e: usize, times: &mut [usize; 4], interval: usize) -> bool {
 }
 
 // All dependences once; whether a target moved.
-fn round(d: Drawn, times: &mut [usize; 4], interval: usize) -> bool {
+fn round(d: Drawn, times: &mut [usize; 4], interval: u16) -> bool {
     let mut any = false;
     let mut e = 0;
     while e < d.m {
@@ -55,7 +58,7 @@ fn round(d: Drawn, times: &mut [usize; 4], interval: usize) -> bool {
 
 // Whether some times meet all dependences: from 0 on, nothing moves any more in the fifth round. (In a loop of 4 operations without a cycle that asks for more and more, a
 // target moves for a path of 3 dependences at most.)
-fn feasible(d: Drawn, interval: usize) -> bool {
+fn feasible(d: Drawn, interval: u16) -> bool {
     let mut times = [0usize; 4];
     let mut moves = true;
     let mut k: usize = 0;
@@ -68,10 +71,10 @@ fn feasible(d: Drawn, interval: usize) -> bool {
 
 // The recurrence bound; 0 where there is none. No cycle of 4 dependences with delays up to 4 asks for more than 16.
 pub fn recurrence(d: Drawn) -> usize {
-    let mut interval = 1;
+    let mut interval: u16 = 1;
     while interval <= 100 {
         if feasible(d, interval) {
-            return interval;
+            return interval as usize;
         }
         interval += 1;
     }

@@ -1,82 +1,50 @@
-// 1,000 random small loops: the search against an exhaustive one over all lists of starts (in `words`), which takes nothing from the library but the form of its answer. It
-// compares the answer, with its bounds, stages and probes, and the list.
-pub mod build;
-pub mod drawn;
+// 1,000 random small loops: the search against an exhaustive one over all lists of starts (in `words`), which takes nothing from the library. It compares the answer, with its
+// bounds, stages and probes, and the list.
+pub mod answer;
+pub mod drawing;
 pub mod lower;
-pub mod picture;
-pub mod random;
 pub mod words;
 
 use std::num::wrapping_add_usize;
 
-// How many loops agree, and how many answers of each kind there are (in `random::kind`'s order).
+// The generator's state, and the counts in the order of the line that prints them: how many loops agree, how many there are, and the answers of each kind.
 struct Tally {
     seed: usize,
-    agree: usize,
-    kinds: [usize; 7],
+    counts: [usize; 9],
 }
 
-// A text, and a number behind it.
-fn number(text: &[u8], n: usize) {
-    io::write_all(1, text);
-    io::print_decimal(1, n as u64);
-}
-
-// One more of a kind.
-fn more(kinds: [usize; 7], kind: usize) -> [usize; 7] {
-    let mut out = kinds;
-    if kind < 7 {
+// One more of a kind; 9 is none.
+fn more(counts: [usize; 9], kind: usize) -> [usize; 9] {
+    let mut out = counts;
+    if kind < 9 {
         out[kind] = wrapping_add_usize(out[kind], 1);
     }
     out
 }
 
-// 1 where a loop agrees; else 0, and a line that says so.
+// 0, where a loop that agrees is counted, or 9, and a line that says that it does not.
 fn told(agrees: bool, i: usize) -> usize {
     if agrees {
-        return 1;
+        return 0;
     }
-    number(b"loop ", i);
-    io::write_all(1, b": differ\n");
-    0
+    console::form(b"loop %: differ\n", &[i]);
+    9
 }
 
-// The tally with loop i.
+// The tally with loop i, which is drawn from its state.
 fn with(t: Tally, i: usize) -> Tally {
-    let o = random::trial(t.seed);
-    let kinds = t.kinds;
-    let after = more(kinds, o.kind);
+    let r = drawing::draw(t.seed);
+    let found = answer::searched(r);
+    let sought = words::sought(r);
+    let before = t.counts;
+    let agreed = more(before, told(answer::same(found, sought), i));
+    let numbers = found.numbers;
+    let kind = more(more(agreed, 1), answer::kind(&numbers));
+    let counts = more(kind, answer::narrower(&numbers));
+    let d = r.drawn;
     Tally {
-        seed: o.seed,
-        agree: wrapping_add_usize(t.agree, told(o.agrees, i)),
-        kinds: after,
-    }
-}
-
-// `A of I agree: found F (G above the bounds), none N (M with no interval to try), spent S, cyclic C, other R`, for the first i loops.
-fn print(i: usize, t: Tally) {
-    let kinds = t.kinds;
-    number(b"", t.agree);
-    number(b" of ", i);
-    number(b" agree: found ", wrapping_add_usize(kinds[0], kinds[1]));
-    number(b" (", kinds[1]);
-    number(
-        b" above the bounds), none ",
-        wrapping_add_usize(kinds[2], kinds[3]),
-    );
-    number(b" (", kinds[3]);
-    number(b" with no interval to try), spent ", kinds[4]);
-    number(b", cyclic ", kinds[5]);
-    number(b", other ", kinds[6]);
-    io::write_all(1, b"\n");
-}
-
-// A tally of nothing.
-fn nothing(seed: usize) -> Tally {
-    Tally {
-        seed: seed,
-        agree: 0,
-        kinds: [0usize; 7],
+        seed: d.seed,
+        counts: counts,
     }
 }
 
@@ -93,11 +61,18 @@ fn through(from: usize, to: usize, t: Tally) -> Tally {
 
 // A line for each 100 loops, with those before them.
 fn main() {
-    let mut t = nothing(1);
+    let mut t = Tally {
+        seed: 1,
+        counts: [0usize; 9],
+    };
     let mut i = 0;
     while i < 1000 {
         t = through(i, i + 100, t);
         i += 100;
-        print(i, t);
+        let counts = t.counts;
+        console::form(
+            b"% of % agree: found % (% above the bounds), none % (% with no interval to try), spent %, cyclic %, other %\n",
+            &counts,
+        );
     }
 }

@@ -1,188 +1,168 @@
 // The answer to a drawn loop by going through all lists of starts, and the probes by their definition: all pairs of a legal list and a next start are looked at.
-use crate::drawn::Drawn;
-use crate::drawn::latency;
-use crate::drawn::narrow;
-use crate::drawn::wider;
+use crate::answer::Answer;
+use crate::drawing::Request;
 use crate::lower::larger;
 use crate::lower::recurrence;
 use crate::lower::resource;
-use crate::picture::legal;
-use crate::picture::start_of;
-use search::Searched;
-use search::Solution;
 use std::num::wrapping_add_usize;
+use trial::drawn::Drawn;
+use trial::drawn::NOWHERE;
+use trial::drawn::holds;
+use trial::drawn::latency;
+use trial::drawn::least;
+use trial::drawn::start_of;
+use trial::picture;
 
-// The first legal list, where there is one.
-struct First {
-    there: bool,
-    starts: [u16; 4],
+// What stands for the number of a list where there is none: no list's number comes close, nor does this one divided by 5 four times.
+const NONE: usize = 18446744073709551615;
+
+// A list of starts, and what is left of its number: 0, or more where there is no such list.
+struct Listed {
+    starts: [u16; 6],
+    left: usize,
 }
 
-// The next list of k starts in dictionary order, in place; false behind the last, where all are 0 again.
-fn advance(word: &mut [u16; 4], k: usize, horizon: usize) -> bool {
-    let mut i = k;
+// List number `code` of k starts, of all those below the horizon in dictionary order. The others are nowhere.
+fn word(code: usize, k: usize, horizon: u16) -> Listed {
+    let h = larger(horizon as usize, 1);
+    let mut starts = [NOWHERE; 6];
+    let mut left = code;
+    let mut i = least(k, 6);
     while 0 < i {
         i -= 1;
-        if i < 4 {
-            let s = wrapping_add_usize(wider(word[i]), 1);
-            if s < horizon {
-                word[i] = narrow(s);
-                return true;
-            }
-            word[i] = 0;
-        }
+        starts[i] = (left % h % 65536) as u16;
+        left = left / h;
     }
-    false
-}
-
-// The first legal list of all n starts. There are 625 lists at most.
-fn first_legal(d: Drawn, interval: usize) -> First {
-    let mut word = [0u16; 4];
-    let mut more = true;
-    let mut turns: usize = 1000;
-    while 0 < turns && more {
-        if legal(d, &word, d.n, interval) {
-            return First {
-                there: true,
-                starts: word,
-            };
-        }
-        more = advance(&mut word, d.n, d.horizon);
-        turns -= 1;
-    }
-    First {
-        there: false,
-        starts: word,
+    Listed {
+        starts: starts,
+        left: left,
     }
 }
 
-// Whether the first k starts of a list are not after those of another, in dictionary order.
-fn not_after(word: &[u16; 4], other: &[u16; 4], k: usize) -> bool {
-    let mut i = 0;
-    while i < k {
-        let a = start_of(word, i);
-        let b = start_of(other, i);
-        if a != b {
-            return a < b;
-        }
-        i += 1;
+// Whether all dependences among the operations that are placed hold.
+fn all_hold(d: Drawn, starts: &[u16; 6], interval: u16) -> bool {
+    let mut held = true;
+    let mut e = 0;
+    while e < d.m {
+        held = held & holds(d, e, starts, interval);
+        e += 1;
     }
-    true
+    held
 }
 
-// Whether k starts are a pair that counts: the first k - 1 are legal, and all k are not after the beginning of the first legal list, where there is one.
-fn counts(d: Drawn, word: &[u16; 4], k: usize, interval: usize, first: First) -> bool {
-    if k == 0 {
+// Whether there is list number `code` of k starts, and it is legal for the first k operations.
+fn legal(d: Drawn, code: usize, k: usize, interval: u16) -> bool {
+    let w = word(code, k, d.horizon);
+    let starts = w.starts;
+    if 0 < w.left {
         return false;
     }
-    if !legal(d, word, k - 1, interval) {
+    if !all_hold(d, &starts, interval) {
         return false;
     }
-    if !first.there {
-        return true;
-    }
-    let other = first.starts;
-    not_after(word, &other, k)
+    let painted = picture::of_starts(d, &starts, interval);
+    !picture::twice(&painted)
 }
 
-// The pairs of k starts.
-fn pairs(d: Drawn, k: usize, interval: usize, first: First) -> usize {
-    let mut word = [0u16; 4];
+// The number of the first legal list of all n starts. There are 625 lists at most.
+fn first_legal(d: Drawn, interval: u16) -> usize {
+    let mut code = 0;
+    while code < 625 {
+        if legal(d, code, d.n, interval) {
+            return code;
+        }
+        code += 1;
+    }
+    NONE
+}
+
+// The pairs of k starts that count: the first k - 1 are legal, and the number of all k is not above the last one.
+fn pairs(d: Drawn, k: usize, interval: u16, last: usize) -> usize {
+    let h = larger(d.horizon as usize, 1);
     let mut count = 0;
-    let mut more = true;
-    let mut turns: usize = 1000;
-    while 0 < turns && more {
-        if counts(d, &word, k, interval, first) {
+    let mut code = 0;
+    while code < 625 {
+        if (code <= last) & legal(d, code / h, k, interval) {
             count = wrapping_add_usize(count, 1);
         }
-        more = advance(&mut word, k, d.horizon);
-        turns -= 1;
+        code += 1;
     }
     count
 }
 
-// The probes at an interval: the pairs of all lengths.
-fn probes(d: Drawn, interval: usize, first: First) -> usize {
+// The probes at an interval: the pairs of all lengths, none after the beginning of the first legal list, where there is one. The number of a list without its last start is its own divided by the horizon.
+fn probes(d: Drawn, interval: u16, first: usize) -> usize {
+    let h = larger(d.horizon as usize, 1);
+    let mut last = first;
     let mut sum = 0;
-    let mut k = 0;
-    while k < d.n {
-        k += 1;
-        sum = wrapping_add_usize(sum, pairs(d, k, interval, first));
+    let mut k = d.n;
+    while 0 < k {
+        k -= 1;
+        sum = wrapping_add_usize(sum, pairs(d, k, interval, last));
+        last = last / h;
     }
     sum
 }
 
-// The largest start + latency.
-fn last_end(d: Drawn, starts: &[u16; 4]) -> usize {
+// The number of stages: one more than that of the largest start + latency.
+fn stages(d: Drawn, starts: &[u16; 6], interval: u16) -> usize {
     let mut most = 0;
     let mut op = 0;
-    while op < d.n {
-        most = larger(
-            most,
-            wrapping_add_usize(start_of(starts, op), latency(d, op)),
-        );
-        op += 1;
-    }
-    most
-}
-
-// The number of stages: one more than the stage of that end.
-fn stages(d: Drawn, interval: usize, starts: &[u16; 4]) -> usize {
-    if interval == 0 {
-        return 0;
-    }
-    wrapping_add_usize(last_end(d, starts) / interval, 1)
-}
-
-// Writes n starts to the list.
-fn write(d: Drawn, starts: &[u16; 4], list: &mut [u16; 6]) {
-    let mut op = 0;
-    while op < 4 {
-        if op < d.n {
-            list[op] = starts[op];
+    while op < 6 {
+        let s = start_of(starts, op);
+        if s < NOWHERE {
+            most = larger(most, wrapping_add_usize(s as usize, latency(d, op)));
         }
         op += 1;
     }
+    wrapping_add_usize(most / larger(interval as usize, 1), 1)
 }
 
-// The schedule of the starts found.
-fn solved(d: Drawn, interval: usize, starts: &[u16; 4], sum: usize) -> Searched {
-    Searched::Found(Solution {
-        interval: interval,
-        resource: resource(d),
-        recurrence: recurrence(d),
-        stages: stages(d, interval, starts),
-        probes: sum,
-    })
+// The answer of these numbers, with no starts.
+fn refused(numbers: [usize; 6]) -> Answer {
+    Answer {
+        numbers: numbers,
+        starts: [NOWHERE; 6],
+    }
+}
+
+// The schedule of a list.
+fn solved(d: Drawn, interval: u16, code: usize, sum: usize) -> Answer {
+    let w = word(code, d.n, d.horizon);
+    let starts = w.starts;
+    let s = stages(d, &starts, interval);
+    Answer {
+        numbers: [0, interval as usize, resource(d), recurrence(d), s, sum],
+        starts: starts,
+    }
 }
 
 // What the intervals from `least` to the cap, which is 6 at most, come to. Where the probes exceed the allowance it is refusal 11, even if there is a list.
-fn sweep(d: Drawn, least: usize, list: &mut [u16; 6]) -> Searched {
+fn sweep(d: Drawn, allowance: usize, least: usize) -> Answer {
     let mut sum = 0;
-    let mut interval = 0;
+    let mut interval: u16 = 0;
     while interval < 6 {
         interval += 1;
-        if (least <= interval) & (interval <= d.cap) {
+        if (least <= interval as usize) & (interval <= d.interval) {
             let first = first_legal(d, interval);
             sum = wrapping_add_usize(sum, probes(d, interval, first));
-            if d.allowance < sum {
-                return Searched::Ended(11, interval, d.allowance);
+            if allowance < sum {
+                return refused([1, 11, interval as usize, allowance, 0, 0]);
             }
-            if first.there {
-                let starts = first.starts;
-                write(d, &starts, list);
-                return solved(d, interval, &starts, sum);
+            if first < NONE {
+                return solved(d, interval, first, sum);
             }
         }
     }
-    Searched::Ended(10, d.cap, sum)
+    refused([1, 10, d.interval as usize, sum, 0, 0])
 }
 
-// The answer, with the starts in the list.
-pub fn answer(d: Drawn, list: &mut [u16; 6]) -> Searched {
+// The answer.
+pub fn sought(r: Request) -> Answer {
+    let d = r.drawn;
     let bound = recurrence(d);
     if bound == 0 {
-        return Searched::Refused(8, 0);
+        return refused([2, 8, 0, 0, 0, 0]);
     }
-    sweep(d, larger(resource(d), bound), list)
+    sweep(d, r.allowance, larger(resource(d), bound))
 }

@@ -1,12 +1,13 @@
 // The session against the book: the answer, the starts, the number of open checkpoints and the rows.
-use crate::book;
 use crate::book::Answer;
 use crate::book::Book;
-use crate::book::NOWHERE;
 use crate::book::Turned;
-use crate::drawn::Drawn;
+use crate::book::form;
 use session::Reply;
 use session::Session;
+use trial::drawn::Drawn;
+use trial::drawn::start_of;
+use trial::picture;
 
 // A mask as a number.
 fn small(mask: u64) -> usize {
@@ -23,30 +24,12 @@ pub fn answer(reply: Reply) -> Answer {
     }
 }
 
-// An answer.
-fn form(kind: usize, number: usize, detail: usize) -> Answer {
-    Answer {
-        kind: kind,
-        number: number,
-        detail: detail,
-    }
-}
-
-// Whether two answers are the same.
-fn same_answer(a: Answer, b: Answer) -> bool {
-    (a.kind == b.kind) & (a.number == b.number) & (a.detail == b.detail)
-}
-
 // Whether the session's starts are the book's, and no other operation is placed.
 fn same_starts(at: &[u16; 64], starts: &[u16; 6]) -> bool {
     let mut equal = true;
     let mut i = 0;
     while i < 64 {
-        if i < 6 {
-            equal = equal & (at[i] == starts[i]);
-        } else {
-            equal = equal & (at[i] == NOWHERE);
-        }
+        equal = equal & (at[i] == start_of(starts, i));
         i += 1;
     }
     equal
@@ -64,22 +47,20 @@ fn same_rows(a: &[u64; 8], b: &[u64; 8]) -> bool {
 }
 
 // Whether the session's state and its table are those of the book.
-fn same_state(d: Drawn, s: Session, rows: &[u64; 8], b: Book) -> bool {
+pub fn same_state(d: Drawn, s: Session, rows: &[u64; 8], b: Book) -> bool {
     let placed = s.starts;
     let starts = b.starts;
-    let table = book::table(d, &starts);
+    let painted = picture::of_starts(d, &starts, d.interval);
+    let table = picture::rows(&painted, d.interval);
     same_starts(&placed.at, &starts) & (s.marks == b.open) & same_rows(rows, &table)
-}
-
-// Whether what an opening left is an empty book.
-pub fn same_opening(d: Drawn, s: Session, rows: &[u64; 8]) -> bool {
-    let b = book::empty();
-    same_state(d, s, rows, b)
 }
 
 // Whether what a call answered and left is what it answered and left of the book.
 pub fn same(d: Drawn, s: Session, rows: &[u64; 8], a: Answer, t: Turned) -> bool {
     let b = t.book;
-    let expected = t.answer;
-    same_answer(a, expected) & same_state(d, s, rows, b)
+    let e = t.answer;
+    if (a.kind != e.kind) | (a.number != e.number) | (a.detail != e.detail) {
+        return false;
+    }
+    same_state(d, s, rows, b)
 }

@@ -1,1 +1,4 @@
 pub mod Loops
+pub mod Random
+pub mod Drawn
+pub mod Picture

@@ -1,2 +1,7 @@
-// Loops to try the library on.
+// Loops to try the library on: the worked ones, and random ones with a plain picture of their reservation tables. Nothing here uses the library.
+pub mod draw;
+pub mod drawn;
+pub mod file;
 pub mod loops;
+pub mod picture;
+pub mod random;

@@ -1,41 +1,45 @@
--- `main` is safe and ends: its loop counts up, and the measure is the loops left. Assumes nothing.
+-- `main` is safe and ends: its loop counts up by hundreds, and the measure is the loops left. Assumes nothing.
 use Prim.Native.Nat.{_-_}
+use native.Mathlib.Omega.{arith}
 use borrow.Author.Needs.{needs}
 use Rattle.search_random.proofs.main.Statement.{statement}
 use Rattle.search_random.proofs.main.Tie as tie
 
 abbrev Inv-loop : tie.InvT-loop
-Inv-loop t₀ i₀ t i = Unit
+Inv-loop t₀ i₀ t4 t i = Unit
 
 abbrev μ-loop : tie.MeasureT-loop
-μ-loop t₀ i₀ t i = 1000 - i
-
-nothing-requires : tie.Need-nothing-requires Inv-loop μ-loop
-nothing-requires c κs = search needs
+μ-loop t₀ i₀ t4 t i = 1000 - i
 
 loop-holds : tie.Need-loop-holds Inv-loop μ-loop
-loop-holds c = search needs
+loop-holds c = tt
 
 add-through : tie.Need-add-through Inv-loop μ-loop
-add-through c = search needs
+add-through c = omega arith
 
 through-requires : tie.Need-through-requires Inv-loop μ-loop
-through-requires c κs = search needs
+through-requires c κs = tt
 
 add-i : tie.Need-add-i Inv-loop μ-loop
-add-i c = search needs
+add-i c = omega arith
 
-print-requires : tie.Need-print-requires Inv-loop μ-loop
-print-requires c κs = search needs
+slice-aggregate-line : tie.Need-slice-aggregate-line Inv-loop μ-loop
+slice-aggregate-line c = search needs
+
+slice-aggregate-line-2 : tie.Need-slice-aggregate-line-2 Inv-loop μ-loop
+slice-aggregate-line-2 c = search needs
+
+line-requires : tie.Need-line-requires Inv-loop μ-loop
+line-requires c κs = tt
 
 loop-less : tie.Need-loop-less Inv-loop μ-loop
-loop-less c = search needs
+loop-less c = omega arith
 
 loop-again : tie.Need-loop-again Inv-loop μ-loop
-loop-again c = search needs
+loop-again c = tt
 
 returns : tie.Need-returns Inv-loop μ-loop
-returns c = search needs
+returns c = tt
 
 pub main-spec : {M : Type 1} → statement M
 main-spec =
@@ -43,12 +47,13 @@ main-spec =
     (tie.spec
     Inv-loop
     μ-loop
-    nothing-requires
     loop-holds
     add-through
     through-requires
     add-i
-    print-requires
+    slice-aggregate-line
+    slice-aggregate-line-2
+    line-requires
     loop-less
     loop-again
     returns)

@@ -1,6 +1,6 @@
--- `through` is safe and ends: its loop counts up, and the measure is the loops left. Assumes nothing.
+-- `through` is safe and ends: its loop counts up, and the measure is what is left. Assumes nothing.
 use Prim.Native.Nat.{_-_}
-use borrow.Author.Needs.{needs}
+use native.Mathlib.Omega.{arith}
 use Rattle.search_random.proofs.through.Statement.{statement}
 use Rattle.search_random.proofs.through.Tie as tie
 
@@ -11,22 +11,22 @@ abbrev μ-loop : tie.MeasureT-loop
 μ-loop from to out₀ i₀ out i = to - i
 
 loop-holds : tie.Need-loop-holds Inv-loop μ-loop
-loop-holds c = search needs
+loop-holds c = tt
 
 with-requires : tie.Need-with-requires Inv-loop μ-loop
-with-requires c κs = search needs
+with-requires c κs = tt
 
 add-i : tie.Need-add-i Inv-loop μ-loop
-add-i c = search needs
+add-i c = omega arith
 
 loop-less : tie.Need-loop-less Inv-loop μ-loop
-loop-less c = search needs
+loop-less c = omega arith
 
 loop-again : tie.Need-loop-again Inv-loop μ-loop
-loop-again c = search needs
+loop-again c = tt
 
 returns : tie.Need-returns Inv-loop μ-loop
-returns c = search needs
+returns c = tt
 
 pub through-spec : {M : Type 1} → statement M
 through-spec =

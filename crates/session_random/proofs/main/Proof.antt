@@ -1,62 +1,63 @@
--- `main` is safe and ends: its loop counts up, and the measure is the lists left. Assumes nothing.
+-- `main` is safe and ends: its loop counts up, and the measure is what is left. Assumes nothing.
 use Prim.Native.Nat.{_-_}
+use native.Mathlib.Omega.{arith}
 use borrow.Author.Needs.{needs}
 use Rattle.session_random.proofs.main.Statement.{statement}
 use Rattle.session_random.proofs.main.Tie as tie
 
 abbrev Inv-loop : tie.InvT-loop
-Inv-loop t₀ lists₀ t3 t4 t5 t6 t lists = Unit
+Inv-loop t₀ lists₀ t4 t lists = Unit
 
 abbrev μ-loop : tie.MeasureT-loop
-μ-loop t₀ lists₀ t3 t4 t5 t6 t lists = 100 - lists
+μ-loop t₀ lists₀ t4 t lists = 100 - lists
 
 nothing-requires : tie.Need-nothing-requires Inv-loop μ-loop
-nothing-requires c κs = search needs
+nothing-requires c κs = tt
 
 loop-holds : tie.Need-loop-holds Inv-loop μ-loop
-loop-holds c = search needs
+loop-holds c = tt
 
-with-ten-requires : tie.Need-with-ten-requires Inv-loop μ-loop
-with-ten-requires c κs = search needs
+with-list-requires : tie.Need-with-list-requires Inv-loop μ-loop
+with-list-requires c κs = tt
 
 add-lists : tie.Need-add-lists Inv-loop μ-loop
-add-lists c = search needs
+add-lists c = omega arith
 
 print-requires : tie.Need-print-requires Inv-loop μ-loop
-print-requires c κs = search needs
+print-requires c κs = tt
 
 loop-less : tie.Need-loop-less Inv-loop μ-loop
-loop-less c = search needs
+loop-less c = omega arith
 
 loop-again : tie.Need-loop-again Inv-loop μ-loop
-loop-again c = search needs
+loop-again c = tt
 
-slice-aggregate-number : tie.Need-slice-aggregate-number Inv-loop μ-loop
-slice-aggregate-number c = search needs
+loop-less-2 : tie.Need-loop-less-2 Inv-loop μ-loop
+loop-less-2 c = omega arith
 
-number-requires : tie.Need-number-requires Inv-loop μ-loop
-number-requires c κs = search needs
+loop-again-2 : tie.Need-loop-again-2 Inv-loop μ-loop
+loop-again-2 c = tt
 
-slice-aggregate-number-2 : tie.Need-slice-aggregate-number-2 Inv-loop μ-loop
-slice-aggregate-number-2 c = search needs
+slice-aggregate-line : tie.Need-slice-aggregate-line Inv-loop μ-loop
+slice-aggregate-line c = search needs
 
-number-requires-2 : tie.Need-number-requires-2 Inv-loop μ-loop
-number-requires-2 c κs = search needs
+array-read-t14 : tie.Need-array-read-t14 Inv-loop μ-loop
+array-read-t14 c = omega arith
 
-slice-aggregate-number-3 : tie.Need-slice-aggregate-number-3 Inv-loop μ-loop
-slice-aggregate-number-3 c = search needs
+array-read-t17 : tie.Need-array-read-t17 Inv-loop μ-loop
+array-read-t17 c = omega arith
 
-number-requires-3 : tie.Need-number-requires-3 Inv-loop μ-loop
-number-requires-3 c κs = search needs
+array-read-t20 : tie.Need-array-read-t20 Inv-loop μ-loop
+array-read-t20 c = omega arith
 
-slice-aggregate-write-all : tie.Need-slice-aggregate-write-all Inv-loop μ-loop
-slice-aggregate-write-all c = search needs
+slice-aggregate-line-2 : tie.Need-slice-aggregate-line-2 Inv-loop μ-loop
+slice-aggregate-line-2 c = search needs
 
-write-all-requires : tie.Need-write-all-requires Inv-loop μ-loop
-write-all-requires c κs = search needs
+line-requires : tie.Need-line-requires Inv-loop μ-loop
+line-requires c κs = tt
 
 returns : tie.Need-returns Inv-loop μ-loop
-returns c = search needs
+returns c = tt
 
 pub main-spec : {M : Type 1} → statement M
 main-spec =
@@ -66,17 +67,17 @@ main-spec =
     μ-loop
     nothing-requires
     loop-holds
-    with-ten-requires
+    with-list-requires
     add-lists
     print-requires
     loop-less
     loop-again
-    slice-aggregate-number
-    number-requires
-    slice-aggregate-number-2
-    number-requires-2
-    slice-aggregate-number-3
-    number-requires-3
-    slice-aggregate-write-all
-    write-all-requires
+    loop-less-2
+    loop-again-2
+    slice-aggregate-line
+    array-read-t14
+    array-read-t17
+    array-read-t20
+    slice-aggregate-line-2
+    line-requires
     returns)

@@ -1,9 +1,15 @@
 -- `played` is safe: where opening answers fine, the session and the rows are those that calls take. Assumes nothing.
 use mathlib.Core.Path.{sym, ap, _∙_}
-use borrow.Author.Needs.{needs}
 use Rattle.session.specs.View.{setupOf, openingOf}
+use borrow.Author.Needs.{needs}
 use Rattle.session_random.proofs.played.Statement.{statement}
 use Rattle.session_random.proofs.played.Tie as tie
+
+cast-open : tie.Need-cast-open
+cast-open c = search needs
+
+cast-open-2 : tie.Need-cast-open-2
+cast-open-2 c = search needs
 
 slice-aggregate-open : tie.Need-slice-aggregate-open
 slice-aggregate-open c = search needs
@@ -23,23 +29,20 @@ with-opening-requires c κs = search needs
 returns : tie.Need-returns
 returns c = search needs
 
-same-opening-requires : tie.Need-same-opening-requires
-same-opening-requires c κs = search needs
-
 empty-requires : tie.Need-empty-requires
 empty-requires c κs = search needs
+
+same-state-requires : tie.Need-same-state-requires
+same-state-requires c κs = search needs
 
 with-opening-requires-2 : tie.Need-with-opening-requires-2
 with-opening-requires-2 c κs = search needs
 
-drawn-calls-requires : tie.Need-drawn-calls-requires
-drawn-calls-requires c κs =
+all-turns-requires : tie.Need-all-turns-requires
+all-turns-requires c κs =
     let d = c .before .before .before .before .before .before in
     let o = d .before .before .before .«open» in
     o .ensures .valid (setupOf (o .result .session)) (sym (o .ensures .says) ∙ ap (openingOf (o .result .session)) (d .enum-told .given .1))
-
-all-back-requires : tie.Need-all-back-requires
-all-back-requires c κs = search needs
 
 returns-2 : tie.Need-returns-2
 returns-2 c = search needs
@@ -48,15 +51,16 @@ pub played-spec : {M : Type 1} → statement M
 played-spec =
     tie.close
     (tie.spec
+    cast-open
+    cast-open-2
     slice-aggregate-open
     open-requires
     enum-told
     enum-told-2
     with-opening-requires
     returns
-    same-opening-requires
     empty-requires
+    same-state-requires
     with-opening-requires-2
-    drawn-calls-requires
-    all-back-requires
+    all-turns-requires
     returns-2)

@@ -1,6 +1,6 @@
--- `recurrence` is safe and ends: its loop counts up, and the measure is the intervals left. Assumes nothing.
+-- `recurrence` is safe and ends: its loop counts up, and the measure is what is left. Assumes nothing.
 use Prim.Native.Nat.{_-_}
-use borrow.Author.Needs.{needs}
+use native.Mathlib.Omega.{arith}
 use Rattle.search_random.proofs.lower.recurrence.Statement.{statement}
 use Rattle.search_random.proofs.lower.recurrence.Tie as tie
 
@@ -11,25 +11,28 @@ abbrev μ-loop : tie.MeasureT-loop
 μ-loop d interval₀ interval = 101 - interval
 
 loop-holds : tie.Need-loop-holds Inv-loop μ-loop
-loop-holds c = search needs
+loop-holds c = tt
 
 feasible-requires : tie.Need-feasible-requires Inv-loop μ-loop
-feasible-requires c κs = search needs
+feasible-requires c κs = tt
+
+cast-result : tie.Need-cast-result Inv-loop μ-loop
+cast-result c = omega arith
 
 returns : tie.Need-returns Inv-loop μ-loop
-returns c = search needs
+returns c = tt
 
 add-interval : tie.Need-add-interval Inv-loop μ-loop
-add-interval c = search needs
+add-interval c = omega arith
 
 loop-less : tie.Need-loop-less Inv-loop μ-loop
-loop-less c = search needs
+loop-less c = omega arith
 
 loop-again : tie.Need-loop-again Inv-loop μ-loop
-loop-again c = search needs
+loop-again c = tt
 
 returns-2 : tie.Need-returns-2 Inv-loop μ-loop
-returns-2 c = search needs
+returns-2 c = tt
 
 pub recurrence-spec : {M : Type 1} → statement M
 recurrence-spec =
@@ -39,6 +42,7 @@ recurrence-spec =
     μ-loop
     loop-holds
     feasible-requires
+    cast-result
     returns
     add-interval
     loop-less

@@ -1,6 +1,6 @@
--- `round` is safe and ends: its loop counts up, and the measure is the dependences left. Assumes nothing.
+-- `round` is safe and ends: its loop counts up, and the measure is what is left. Assumes nothing.
 use Prim.Native.Nat.{_-_}
-use borrow.Author.Needs.{needs}
+use native.Mathlib.Omega.{arith}
 use Rattle.search_random.proofs.lower.round.Statement.{statement}
 use Rattle.search_random.proofs.lower.round.Tie as tie
 
@@ -11,22 +11,22 @@ abbrev μ-loop : tie.MeasureT-loop
 μ-loop d times₀ interval any₀ e₀ times any e = d .m - e
 
 loop-holds : tie.Need-loop-holds Inv-loop μ-loop
-loop-holds c = search needs
+loop-holds c = tt
 
 moved-requires : tie.Need-moved-requires Inv-loop μ-loop
-moved-requires c κs = search needs
+moved-requires c κs = tt
 
 add-e : tie.Need-add-e Inv-loop μ-loop
-add-e c = search needs
+add-e c = omega arith
 
 loop-less : tie.Need-loop-less Inv-loop μ-loop
-loop-less c = search needs
+loop-less c = omega arith
 
 loop-again : tie.Need-loop-again Inv-loop μ-loop
-loop-again c = search needs
+loop-again c = tt
 
 returns : tie.Need-returns Inv-loop μ-loop
-returns c = search needs
+returns c = tt
 
 pub round-spec : {M : Type 1} → statement M
 round-spec =

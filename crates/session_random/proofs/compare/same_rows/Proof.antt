@@ -1,6 +1,6 @@
--- `same_rows` is safe and ends: its loop counts up, and the measure is the rows left. Assumes nothing.
+-- `same_rows` is safe and ends: its loop counts up, and the measure is what is left. Assumes nothing.
 use Prim.Native.Nat.{_-_}
-use borrow.Author.Needs.{needs}
+use native.Mathlib.Omega.{arith}
 use Rattle.session_random.proofs.compare.same_rows.Statement.{statement}
 use Rattle.session_random.proofs.compare.same_rows.Tie as tie
 
@@ -11,31 +11,31 @@ abbrev μ-loop : tie.MeasureT-loop
 μ-loop a b equal₀ i₀ equal i = 8 - i
 
 loop-holds : tie.Need-loop-holds Inv-loop μ-loop
-loop-holds c = search needs
+loop-holds c = tt
 
 mul-equal : tie.Need-mul-equal Inv-loop μ-loop
-mul-equal c = search needs
+mul-equal c = omega arith
 
 element-copy-out-equal : tie.Need-element-copy-out-equal Inv-loop μ-loop
-element-copy-out-equal c = search needs
+element-copy-out-equal c = omega arith
 
 mul-equal-2 : tie.Need-mul-equal-2 Inv-loop μ-loop
-mul-equal-2 c = search needs
+mul-equal-2 c = omega arith
 
 element-copy-out-equal-2 : tie.Need-element-copy-out-equal-2 Inv-loop μ-loop
-element-copy-out-equal-2 c = search needs
+element-copy-out-equal-2 c = omega arith
 
 add-i : tie.Need-add-i Inv-loop μ-loop
-add-i c = search needs
+add-i c = omega arith
 
 loop-less : tie.Need-loop-less Inv-loop μ-loop
-loop-less c = search needs
+loop-less c = omega arith
 
 loop-again : tie.Need-loop-again Inv-loop μ-loop
-loop-again c = search needs
+loop-again c = tt
 
 returns : tie.Need-returns Inv-loop μ-loop
-returns c = search needs
+returns c = tt
 
 pub same-rows-spec : {M : Type 1} → statement M
 same-rows-spec =

@@ -1,6 +1,6 @@
--- `same_starts` is safe and ends: its loop counts up, and the measure is the operations left. Assumes nothing.
+-- `same_starts` is safe and ends: its loop counts up, and the measure is what is left. Assumes nothing.
 use Prim.Native.Nat.{_-_}
-use borrow.Author.Needs.{needs}
+use native.Mathlib.Omega.{arith}
 use Rattle.session_random.proofs.compare.same_starts.Statement.{statement}
 use Rattle.session_random.proofs.compare.same_starts.Tie as tie
 
@@ -11,37 +11,28 @@ abbrev μ-loop : tie.MeasureT-loop
 μ-loop at starts equal₀ i₀ equal i = 64 - i
 
 loop-holds : tie.Need-loop-holds Inv-loop μ-loop
-loop-holds c = search needs
+loop-holds c = tt
 
 mul-equal : tie.Need-mul-equal Inv-loop μ-loop
-mul-equal c = search needs
+mul-equal c = omega arith
 
 element-copy-out-equal : tie.Need-element-copy-out-equal Inv-loop μ-loop
-element-copy-out-equal c = search needs
+element-copy-out-equal c = omega arith
 
-mul-equal-2 : tie.Need-mul-equal-2 Inv-loop μ-loop
-mul-equal-2 c = search needs
-
-element-copy-out-equal-2 : tie.Need-element-copy-out-equal-2 Inv-loop μ-loop
-element-copy-out-equal-2 c = search needs
-
-mul-equal-3 : tie.Need-mul-equal-3 Inv-loop μ-loop
-mul-equal-3 c = search needs
-
-element-copy-out-equal-3 : tie.Need-element-copy-out-equal-3 Inv-loop μ-loop
-element-copy-out-equal-3 c = search needs
+start-of-requires : tie.Need-start-of-requires Inv-loop μ-loop
+start-of-requires c κs = tt
 
 add-i : tie.Need-add-i Inv-loop μ-loop
-add-i c = search needs
+add-i c = omega arith
 
 loop-less : tie.Need-loop-less Inv-loop μ-loop
-loop-less c = search needs
+loop-less c = omega arith
 
 loop-again : tie.Need-loop-again Inv-loop μ-loop
-loop-again c = search needs
+loop-again c = tt
 
 returns : tie.Need-returns Inv-loop μ-loop
-returns c = search needs
+returns c = tt
 
 pub same-starts-spec : {M : Type 1} → statement M
 same-starts-spec =
@@ -52,10 +43,7 @@ same-starts-spec =
     loop-holds
     mul-equal
     element-copy-out-equal
-    mul-equal-2
-    element-copy-out-equal-2
-    mul-equal-3
-    element-copy-out-equal-3
+    start-of-requires
     add-i
     loop-less
     loop-again

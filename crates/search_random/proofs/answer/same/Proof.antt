@@ -1,0 +1,70 @@
+-- `same` is safe and ends: its loop counts up, and the measure is what is left. Assumes nothing.
+use Prim.Native.Nat.{_-_}
+use native.Mathlib.Omega.{arith}
+use Rattle.search_random.proofs.answer.same.Statement.{statement}
+use Rattle.search_random.proofs.answer.same.Tie as tie
+
+abbrev Inv-loop : tie.InvT-loop
+Inv-loop a b equal₀ i₀ equal i = Unit
+
+abbrev μ-loop : tie.MeasureT-loop
+μ-loop a b equal₀ i₀ equal i = 6 - i
+
+loop-holds : tie.Need-loop-holds Inv-loop μ-loop
+loop-holds c = tt
+
+mul-equal : tie.Need-mul-equal Inv-loop μ-loop
+mul-equal c = omega arith
+
+element-copy-out-equal : tie.Need-element-copy-out-equal Inv-loop μ-loop
+element-copy-out-equal c = omega arith
+
+mul-equal-2 : tie.Need-mul-equal-2 Inv-loop μ-loop
+mul-equal-2 c = omega arith
+
+element-copy-out-equal-2 : tie.Need-element-copy-out-equal-2 Inv-loop μ-loop
+element-copy-out-equal-2 c = omega arith
+
+mul-equal-3 : tie.Need-mul-equal-3 Inv-loop μ-loop
+mul-equal-3 c = omega arith
+
+element-copy-out-equal-3 : tie.Need-element-copy-out-equal-3 Inv-loop μ-loop
+element-copy-out-equal-3 c = omega arith
+
+mul-equal-4 : tie.Need-mul-equal-4 Inv-loop μ-loop
+mul-equal-4 c = omega arith
+
+element-copy-out-equal-4 : tie.Need-element-copy-out-equal-4 Inv-loop μ-loop
+element-copy-out-equal-4 c = omega arith
+
+add-i : tie.Need-add-i Inv-loop μ-loop
+add-i c = omega arith
+
+loop-less : tie.Need-loop-less Inv-loop μ-loop
+loop-less c = omega arith
+
+loop-again : tie.Need-loop-again Inv-loop μ-loop
+loop-again c = tt
+
+returns : tie.Need-returns Inv-loop μ-loop
+returns c = tt
+
+pub same-spec : {M : Type 1} → statement M
+same-spec =
+    tie.close
+    (tie.spec
+    Inv-loop
+    μ-loop
+    loop-holds
+    mul-equal
+    element-copy-out-equal
+    mul-equal-2
+    element-copy-out-equal-2
+    mul-equal-3
+    element-copy-out-equal-3
+    mul-equal-4
+    element-copy-out-equal-4
+    add-i
+    loop-less
+    loop-again
+    returns)

@@ -1,0 +1,50 @@
+-- `first_such` is safe and ends: its loop counts up, and the measure is what is left. Assumes nothing.
+use Prim.Native.Nat.{_-_}
+use native.Mathlib.Omega.{arith}
+use Rattle.session_random.proofs.calls.first_such.Statement.{statement}
+use Rattle.session_random.proofs.calls.first_such.Tie as tie
+
+abbrev Inv-loop : tie.InvT-loop
+Inv-loop starts n op wanted p₀ k₀ p k = Unit
+
+abbrev μ-loop : tie.MeasureT-loop
+μ-loop starts n op wanted p₀ k₀ p k = 6 - k
+
+loop-holds : tie.Need-loop-holds Inv-loop μ-loop
+loop-holds c = tt
+
+placed-requires : tie.Need-placed-requires Inv-loop μ-loop
+placed-requires c κs = tt
+
+returns : tie.Need-returns Inv-loop μ-loop
+returns c = tt
+
+behind-requires : tie.Need-behind-requires Inv-loop μ-loop
+behind-requires c κs = tt
+
+add-k : tie.Need-add-k Inv-loop μ-loop
+add-k c = omega arith
+
+loop-less : tie.Need-loop-less Inv-loop μ-loop
+loop-less c = omega arith
+
+loop-again : tie.Need-loop-again Inv-loop μ-loop
+loop-again c = tt
+
+returns-2 : tie.Need-returns-2 Inv-loop μ-loop
+returns-2 c = tt
+
+pub first-such-spec : {M : Type 1} → statement M
+first-such-spec =
+    tie.close
+    (tie.spec
+    Inv-loop
+    μ-loop
+    loop-holds
+    placed-requires
+    returns
+    behind-requires
+    add-k
+    loop-less
+    loop-again
+    returns-2)
