@@ -1,8 +1,4 @@
 // Reads a loop file from standard input to its end, and prints its schedule, or the refusal (document 01).
-mod input;
-mod line;
-
-use input::Input;
 use loop_file::Reading;
 use search::Searched;
 use search::Solution;
@@ -10,32 +6,27 @@ use search::stages;
 
 // `refused N at D`.
 fn refused(number: usize, detail: usize) {
-    let mut out = line::empty();
-    let a = line::number(&mut out, 0, b"refused ", number);
-    let b = line::number(&mut out, a, b" at ", detail);
-    line::print(&mut out, b);
+    console::form(b"refused % at %\n", &[number, detail]);
 }
 
 // `interval I resource R recurrence B stages S probes P`.
-fn summary(found: Solution) {
-    let mut out = line::empty();
-    let a = line::number(&mut out, 0, b"interval ", found.interval);
-    let b = line::number(&mut out, a, b" resource ", found.resource);
-    let c = line::number(&mut out, b, b" recurrence ", found.recurrence);
-    let d = line::number(&mut out, c, b" stages ", found.stages);
-    let e = line::number(&mut out, d, b" probes ", found.probes);
-    line::print(&mut out, e);
+fn summary(f: Solution) {
+    let numbers = [f.interval, f.resource, f.recurrence, f.stages, f.probes];
+    console::form(
+        b"interval % resource % recurrence % stages % probes %\n",
+        &numbers,
+    );
 }
 
 // `op O start S stage T cycle C order N`, for an operation and its start.
 fn operation(interval: usize, starts: &[u16], op: usize, start: usize) {
-    let mut out = line::empty();
-    let a = line::number(&mut out, 0, b"op ", op);
-    let b = line::number(&mut out, a, b" start ", start);
-    let c = line::number(&mut out, b, b" stage ", stages::stage(interval, start));
-    let d = line::number(&mut out, c, b" cycle ", stages::cycle(interval, start));
-    let e = line::number(&mut out, d, b" order ", stages::order(interval, starts, op));
-    line::print(&mut out, e);
+    let stage = stages::stage(interval, start);
+    let cycle = stages::cycle(interval, start);
+    let order = stages::order(interval, starts, op);
+    console::form(
+        b"op % start % stage % cycle % order %\n",
+        &[op, start, stage, cycle, order],
+    );
 }
 
 // A start as a number.
@@ -79,26 +70,14 @@ fn schedule(file: &[u8]) {
     }
 }
 
-// The schedule of the first n bytes.
-fn of_part(bytes: &[u8], n: usize) {
-    if n <= bytes.len() {
-        schedule(&bytes[0..n]);
-    }
-}
-
-// The same, of what was read.
-fn of_input(bytes: &[u8; 1691], n: usize) {
-    of_part(bytes, n);
-}
-
+// Keeps 1,691 bytes of the input, one more than the longest loop file has.
 fn main() {
     let mut bytes = [0u8; 1691];
-    match input::read(&mut bytes) {
-        Input::Whole(n) => {
-            of_input(&bytes, n);
-        }
-        Input::Failed => {
-            io::write_all(1, b"cannot read\n");
-        }
+    let input = console::read_all(&mut bytes);
+    let n = input.count;
+    if input.whole {
+        schedule(&bytes[..n]);
+    } else {
+        io::write_all(1, b"cannot read\n");
     }
 }

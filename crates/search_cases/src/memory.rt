@@ -1,15 +1,5 @@
 // What the search leaves in lent memory. Before a call each place of the list and each row of the table holds the largest number, which no start and no cleared row is.
 
-// A list before a call.
-pub fn list() -> [u16; 66] {
-    [65535u16; 66]
-}
-
-// A table before a call.
-pub fn rows() -> [u64; 4100] {
-    [18446744073709551615u64; 4100]
-}
-
 // A start as a number.
 fn wide(start: u16) -> usize {
     start as usize
@@ -32,7 +22,7 @@ fn changed(list: &[u16]) -> usize {
 fn places(list: &[u16]) {
     let mut i = 0;
     while i < list.len() {
-        crate::number(b" ", wide(list[i]));
+        console::form(b" %", &[wide(list[i])]);
         i += 1;
     }
 }

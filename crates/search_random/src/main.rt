@@ -27,7 +27,7 @@ fn told(agrees: bool, i: usize) -> usize {
     if agrees {
         return 0;
     }
-    report::line(b"loop #: differ\n", &[i]);
+    console::form(b"loop %: differ\n", &[i]);
     9
 }
 
@@ -70,8 +70,8 @@ fn main() {
         t = through(i, i + 100, t);
         i += 100;
         let counts = t.counts;
-        report::line(
-            b"# of # agree: found # (# above the bounds), none # (# with no interval to try), spent #, cyclic #, other #\n",
+        console::form(
+            b"% of % agree: found % (% above the bounds), none % (% with no interval to try), spent %, cyclic %, other %\n",
             &counts,
         );
     }

@@ -152,8 +152,8 @@ fn main() {
         }
     }
     let counts = t.counts;
-    report::line(
-        b"# of # calls agree in # lists\n",
+    console::form(
+        b"% of % calls agree in % lists\n",
         &[counts[2], counts[1], counts[0]],
     );
 }

@@ -1,7 +1,7 @@
 -- `operations` is safe and ends: its loop counts up, and the measure is the starts left. Assumes nothing.
+use native.Mathlib.Omega.{arith}
 use Prim.Native.Nat.{_-_}
 use lib.ListN.{length}
-use borrow.Author.Needs.{needs}
 use Rattle.schedule.proofs.operations.Statement.{statement}
 use Rattle.schedule.proofs.operations.Tie as tie
 
@@ -12,31 +12,31 @@ abbrev μ-loop : tie.MeasureT-loop
 μ-loop interval starts op₀ op = length starts - op
 
 loop-holds : tie.Need-loop-holds Inv-loop μ-loop
-loop-holds c = search needs
+loop-holds c = tt
 
 mul-wide : tie.Need-mul-wide Inv-loop μ-loop
-mul-wide c = search needs
+mul-wide c = omega arith
 
 shared-slice-read-wide : tie.Need-shared-slice-read-wide Inv-loop μ-loop
-shared-slice-read-wide c = search needs
+shared-slice-read-wide c = omega arith
 
 wide-requires : tie.Need-wide-requires Inv-loop μ-loop
-wide-requires c κs = search needs
+wide-requires c κs = tt
 
 operation-requires : tie.Need-operation-requires Inv-loop μ-loop
-operation-requires c κs = search needs
+operation-requires c κs = tt
 
 add-op : tie.Need-add-op Inv-loop μ-loop
-add-op c = search needs
+add-op c = omega arith
 
 loop-less : tie.Need-loop-less Inv-loop μ-loop
-loop-less c = search needs
+loop-less c = omega arith
 
 loop-again : tie.Need-loop-again Inv-loop μ-loop
-loop-again c = search needs
+loop-again c = tt
 
 returns : tie.Need-returns Inv-loop μ-loop
-returns c = search needs
+returns c = tt
 
 pub operations-spec : {M : Type 1} → statement M
 operations-spec =

@@ -23,14 +23,14 @@ through-requires c κs = tt
 add-i : tie.Need-add-i Inv-loop μ-loop
 add-i c = omega arith
 
-slice-aggregate-line : tie.Need-slice-aggregate-line Inv-loop μ-loop
-slice-aggregate-line c = search needs
+slice-aggregate-form : tie.Need-slice-aggregate-form Inv-loop μ-loop
+slice-aggregate-form c = search needs
 
-slice-aggregate-line-2 : tie.Need-slice-aggregate-line-2 Inv-loop μ-loop
-slice-aggregate-line-2 c = search needs
+slice-aggregate-form-2 : tie.Need-slice-aggregate-form-2 Inv-loop μ-loop
+slice-aggregate-form-2 c = search needs
 
-line-requires : tie.Need-line-requires Inv-loop μ-loop
-line-requires c κs = tt
+form-requires : tie.Need-form-requires Inv-loop μ-loop
+form-requires c κs = tt
 
 loop-less : tie.Need-loop-less Inv-loop μ-loop
 loop-less c = omega arith
@@ -51,9 +51,9 @@ main-spec =
     add-through
     through-requires
     add-i
-    slice-aggregate-line
-    slice-aggregate-line-2
-    line-requires
+    slice-aggregate-form
+    slice-aggregate-form-2
+    form-requires
     loop-less
     loop-again
     returns)

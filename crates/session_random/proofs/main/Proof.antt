@@ -38,8 +38,8 @@ loop-less-2 c = omega arith
 loop-again-2 : tie.Need-loop-again-2 Inv-loop μ-loop
 loop-again-2 c = tt
 
-slice-aggregate-line : tie.Need-slice-aggregate-line Inv-loop μ-loop
-slice-aggregate-line c = search needs
+slice-aggregate-form : tie.Need-slice-aggregate-form Inv-loop μ-loop
+slice-aggregate-form c = search needs
 
 array-read-t14 : tie.Need-array-read-t14 Inv-loop μ-loop
 array-read-t14 c = omega arith
@@ -50,11 +50,11 @@ array-read-t17 c = omega arith
 array-read-t20 : tie.Need-array-read-t20 Inv-loop μ-loop
 array-read-t20 c = omega arith
 
-slice-aggregate-line-2 : tie.Need-slice-aggregate-line-2 Inv-loop μ-loop
-slice-aggregate-line-2 c = search needs
+slice-aggregate-form-2 : tie.Need-slice-aggregate-form-2 Inv-loop μ-loop
+slice-aggregate-form-2 c = search needs
 
-line-requires : tie.Need-line-requires Inv-loop μ-loop
-line-requires c κs = tt
+form-requires : tie.Need-form-requires Inv-loop μ-loop
+form-requires c κs = tt
 
 returns : tie.Need-returns Inv-loop μ-loop
 returns c = tt
@@ -74,10 +74,10 @@ main-spec =
     loop-again
     loop-less-2
     loop-again-2
-    slice-aggregate-line
+    slice-aggregate-form
     array-read-t14
     array-read-t17
     array-read-t20
-    slice-aggregate-line-2
-    line-requires
+    slice-aggregate-form-2
+    form-requires
     returns)

@@ -1,7 +1,8 @@
--- `places` is safe and ends: its loop counts up, and the measure is the places left. Assumes nothing.
+-- `memory::places` is safe and ends: its loop counts up, and the measure is the places left. Assumes nothing.
+use mathlib.Core.Path.{refl}
+use native.Mathlib.Omega.{arith}
 use Prim.Native.Nat.{_-_}
 use lib.ListN.{length}
-use borrow.Author.Needs.{needs}
 use Rattle.search_cases.proofs.memory.places.Statement.{statement}
 use Rattle.search_cases.proofs.memory.places.Tie as tie
 
@@ -12,34 +13,37 @@ abbrev μ-loop : tie.MeasureT-loop
 μ-loop list i₀ t3 i = length list - i
 
 loop-holds : tie.Need-loop-holds Inv-loop μ-loop
-loop-holds c = search needs
+loop-holds c = tt
 
-slice-aggregate-number : tie.Need-slice-aggregate-number Inv-loop μ-loop
-slice-aggregate-number c = search needs
+slice-aggregate-form : tie.Need-slice-aggregate-form Inv-loop μ-loop
+slice-aggregate-form c = refl
 
 mul-wide : tie.Need-mul-wide Inv-loop μ-loop
-mul-wide c = search needs
+mul-wide c = omega arith
 
 shared-slice-read-wide : tie.Need-shared-slice-read-wide Inv-loop μ-loop
-shared-slice-read-wide c = search needs
+shared-slice-read-wide c = omega arith
 
 wide-requires : tie.Need-wide-requires Inv-loop μ-loop
-wide-requires c κs = search needs
+wide-requires c κs = tt
 
-number-requires : tie.Need-number-requires Inv-loop μ-loop
-number-requires c κs = search needs
+slice-aggregate-form-2 : tie.Need-slice-aggregate-form-2 Inv-loop μ-loop
+slice-aggregate-form-2 c = refl
+
+form-requires : tie.Need-form-requires Inv-loop μ-loop
+form-requires c κs = tt
 
 add-i : tie.Need-add-i Inv-loop μ-loop
-add-i c = search needs
+add-i c = omega arith
 
 loop-less : tie.Need-loop-less Inv-loop μ-loop
-loop-less c = search needs
+loop-less c = omega arith
 
 loop-again : tie.Need-loop-again Inv-loop μ-loop
-loop-again c = search needs
+loop-again c = tt
 
 returns : tie.Need-returns Inv-loop μ-loop
-returns c = search needs
+returns c = tt
 
 pub places-spec : {M : Type 1} → statement M
 places-spec =
@@ -48,11 +52,12 @@ places-spec =
     Inv-loop
     μ-loop
     loop-holds
-    slice-aggregate-number
+    slice-aggregate-form
     mul-wide
     shared-slice-read-wide
     wide-requires
-    number-requires
+    slice-aggregate-form-2
+    form-requires
     add-i
     loop-less
     loop-again
