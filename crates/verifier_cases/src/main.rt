@@ -2,7 +2,9 @@
 // slots. What it must print of the table, the file stdout, was worked out by hand from document 01, and the last line by another program.
 pub mod random;
 
+use trial::drawn::byte;
 use trial::drawn::least;
+use trial::file::first;
 use verifier::Verdict;
 
 // `: legal`, `: dependence E`, `: conflict A B`, or `: refused N at D`.
@@ -40,9 +42,8 @@ fn of_file(q: &[usize; 10]) {
     let mut file = [0u8; 2000];
     trial::loops::put_loop(&mut file, q[0]);
     let at = least(q[2], 1999);
-    file[at] = (q[3] % 256) as u8;
-    let n = least(q[1], 2000);
-    verified(&file[0..n], q);
+    file[at] = byte(q[3]);
+    verified(first(&file, q[1]), q);
 }
 
 // A line of the table: its name, and the verdict. One that begins with `#` is a comment.

@@ -43,7 +43,7 @@ fn draw_starts(starts: &mut [u16; 6], seed: usize) -> usize {
 
 // The verifier's verdict. The list is longer than it has to be.
 fn verified(d: Drawn, starts: &[u16; 6]) -> Verdict {
-    let mut bytes = [0u8; 128];
+    let mut bytes = [0u8; 2000];
     let len = file::put_file(&mut bytes, d);
     verifier::verify(file::first(&bytes, len), d.interval as usize, starts)
 }
