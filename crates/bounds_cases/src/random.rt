@@ -1,78 +1,59 @@
 // 400 random loops: `bounds` against the count over all cycles.
-use crate::build::answer;
-use crate::build::byte;
-use crate::build::clamp;
-use crate::build::header;
-use crate::build::put;
+use crate::cycles;
 use bounds::LowerBounds;
 use std::num::wrapping_add_usize;
+use trial::draw;
+use trial::drawn::Drawn;
+use trial::drawn::with_dep;
+use trial::file;
+use trial::random::next;
+use trial::random::pick;
 
-// What a trial leaves: the generator's state, and 1 where the two bounds agree, else 0.
-struct Outcome {
-    seed: usize,
-    agrees: usize,
-}
-
-// The generator's next state.
-fn next(seed: usize) -> usize {
-    (seed % 2147483648 * 1103515245 + 12345) % 2147483648
-}
-
-// A byte from 0 to n - 1.
-fn below(x: usize, n: usize) -> u8 {
-    if n == 0 { 0 } else { byte(x % n) }
+// x, or what is left of it in a ring of n.
+fn around(x: usize, n: usize) -> usize {
+    if n == 0 { 0 } else { x % n }
 }
 
 // The operation x of a ring of n for three states of four, else any.
-fn aim(seed: usize, x: usize, n: usize) -> u8 {
-    if seed / 65536 % 4 < 3 {
-        below(x, n)
+fn aim(seed: usize, x: usize, n: usize) -> usize {
+    if pick(seed, 0, 4) < 3 {
+        around(x, n)
     } else {
-        below(seed / 262144, n)
+        pick(seed / 4, 0, n)
     }
 }
 
-// Five dependences among n operations, with delays -6 to 6, as 0 to 12, and distances 0 to 2. Most are those of a ring, from its end.
-fn draw(deps: &mut [u8; 20], n: usize, seed: usize) -> usize {
-    let mut s = seed;
-    let mut k: usize = 0;
-    while k < 5 {
-        s = next(s);
-        deps[4 * k] = below(4 - k, n);
-        deps[4 * k + 1] = aim(s, 5 - k, n);
-        s = next(s);
-        deps[4 * k + 2] = below(s / 65536, 13);
-        s = next(s);
-        deps[4 * k + 3] = below(s / 65536, 3);
-        k += 1;
+// Dependence 4 - k, with a delay from -6 to 6 and a distance from 0 to 2. Most are those of a ring, from its end.
+fn draw_dep(d: Drawn, k: usize) -> Drawn {
+    let a = next(d.seed);
+    let b = next(a);
+    let c = next(b);
+    let from = around(k, d.n);
+    let to = aim(a, wrapping_add_usize(k, 1), d.n);
+    let e = std::num::wrapping_sub_usize(4, k);
+    let mut out = with_dep(d, e, from, to, pick(b, 0, 13), pick(c, 0, 3));
+    out.seed = c;
+    out
+}
+
+// A loop of 1 to 4 operations without uses and 1 to 5 dependences.
+fn draw_loop(seed: usize) -> Drawn {
+    let a = next(seed);
+    let b = next(a);
+    let mut d = draw::blank(b, pick(a, 1, 4), pick(b, 1, 5), 1, 1);
+    let mut k: usize = 5;
+    while 0 < k {
+        k -= 1;
+        d = draw_dep(d, k);
     }
-    s
+    d
 }
 
-// The byte of a delay.
-fn signed(x: u8) -> u8 {
-    byte(x as usize + 250)
-}
-
-// The five dependences from base on.
-fn place(buf: &mut [u8; 1690], base: usize, deps: &[u8; 20]) {
-    let mut k = 0;
-    while k < 5 {
-        put(buf, base, 4 * k, deps[4 * k]);
-        put(buf, base, 4 * k + 1, deps[4 * k + 1]);
-        put(buf, base, 4 * k + 2, signed(deps[4 * k + 2]));
-        put(buf, base, 4 * k + 3, deps[4 * k + 3]);
-        k += 1;
-    }
-}
-
-// The bounds of n operations without uses, with the first m of the dependences.
-fn computed(deps: &[u8; 20], n: usize, m: usize) -> LowerBounds {
-    let mut buf = [0u8; 1690];
-    let o = 2 * clamp(n, 4);
-    let len = header(&mut buf, o, 0, 4 * clamp(m, 5));
-    place(&mut buf, 26 + o, deps);
-    answer(&buf, len)
+// The library's bounds.
+fn computed(d: Drawn) -> LowerBounds {
+    let mut bytes = [0u8; 2000];
+    let len = file::put_file(&mut bytes, d);
+    bounds::bounds(file::first(&bytes, len))
 }
 
 // Whether the answer is that of a recurrence bound, 1,000 where there is none.
@@ -83,31 +64,17 @@ fn same(found: LowerBounds, bound: usize) -> bool {
     }
 }
 
-// One loop of 1 to 4 operations and 1 to 5 dependences.
-fn trial(seed: usize) -> Outcome {
-    let a = next(seed);
-    let b = next(a);
-    let n = a / 65536 % 4 + 1;
-    let m = b / 65536 % 5 + 1;
-    let mut deps = [0u8; 20];
-    let after = draw(&mut deps, n, b);
-    let bound = crate::cycles::bound(&deps, n, m);
-    let agrees = same(computed(&deps, n, m), bound);
-    Outcome {
-        seed: after,
-        agrees: if agrees { 1 } else { 0 },
-    }
-}
-
 // How many of 400 loops agree.
 pub fn agreeing() -> usize {
     let mut seed = 1;
     let mut agree = 0;
     let mut i: usize = 0;
     while i < 400 {
-        let t = trial(seed);
-        seed = t.seed;
-        agree = wrapping_add_usize(agree, t.agrees);
+        let d = draw_loop(seed);
+        if same(computed(d), cycles::bound(d)) {
+            agree = wrapping_add_usize(agree, 1);
+        }
+        seed = d.seed;
         i += 1;
     }
     agree

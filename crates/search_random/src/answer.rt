@@ -22,7 +22,7 @@ fn numbers(v: Searched) -> [usize; 6] {
 // The library's answer. The table has no clear row before the call.
 pub fn searched(r: Request) -> Answer {
     let d = r.drawn;
-    let mut bytes = [0u8; 128];
+    let mut bytes = [0u8; 2000];
     let len = file::put_file(&mut bytes, d);
     let mut rows = [18446744073709551615u64; 4096];
     let mut starts = [NOWHERE; 6];

@@ -135,7 +135,7 @@ fn drawn_loop(seed: usize) -> Drawn {
 // The tally with one more list.
 fn with_list(t: Tally) -> Tally {
     let d = drawn_loop(t.seed);
-    let mut bytes = [0u8; 128];
+    let mut bytes = [0u8; 2000];
     let len = file::put_file(&mut bytes, d);
     played(file::first(&bytes, len), d, tally::with_drawn(t, d.seed))
 }

@@ -1,4 +1,4 @@
-// The file of a drawn loop, in an array that has room for any.
+// The file of a drawn loop, in an array of the size that the worked loops are put into.
 use crate::drawn::Drawn;
 use crate::drawn::byte;
 use crate::drawn::duration;
@@ -13,14 +13,14 @@ ghost use lib.ListN.{take};
 const HEAD: [u8; 26] = *b"\x01\x03OPER\x1a\x00\x00\x00USES\x00\x00\x00\x00DEPS\x00\x00\x00\x00";
 
 // The lowest byte of v at a place, where the array has it.
-fn put(file: &mut [u8; 128], at: usize, v: usize) {
-    if at < 128 {
+fn put(file: &mut [u8; 2000], at: usize, v: usize) {
+    if at < 2000 {
         file[at] = byte(v);
     }
 }
 
 // The head of a file whose bodies end at these offsets.
-fn put_head(file: &mut [u8; 128], ops: usize, uses: usize, deps: usize)
+fn put_head(file: &mut [u8; 2000], ops: usize, uses: usize, deps: usize)
     requires { ⌜ (26 ≤ ops) × (ops ≤ uses) × (uses ≤ deps) ⌝ }
 {
     let mut i = 0;
@@ -43,7 +43,7 @@ fn use_count(d: Drawn, op: usize) -> usize {
 }
 
 // n operations.
-fn put_operations(file: &mut [u8; 128], d: Drawn, n: usize)
+fn put_operations(file: &mut [u8; 2000], d: Drawn, n: usize)
     requires { ⌜ n ≤ 6 ⌝ }
 {
     let mut op = 0;
@@ -55,7 +55,7 @@ fn put_operations(file: &mut [u8; 128], d: Drawn, n: usize)
 }
 
 // The uses of n operations, from `from` on; the offset behind them.
-fn put_uses(file: &mut [u8; 128], d: Drawn, n: usize, from: usize) -> usize
+fn put_uses(file: &mut [u8; 2000], d: Drawn, n: usize, from: usize) -> usize
     requires { ⌜ (n ≤ 6) × (from ≤ 38) ⌝ }
     ensures { λ r. ⌜ (from ≤ r) × (r ≤ 74) ⌝ }
 {
@@ -74,7 +74,7 @@ fn put_uses(file: &mut [u8; 128], d: Drawn, n: usize, from: usize) -> usize
 }
 
 // m dependences, from `from` on. In the file a delay is a signed byte.
-fn put_deps(file: &mut [u8; 128], d: Drawn, m: usize, from: usize)
+fn put_deps(file: &mut [u8; 2000], d: Drawn, m: usize, from: usize)
     requires { ⌜ (m ≤ 6) × (from ≤ 74) ⌝ }
 {
     let mut i = 0;
@@ -87,7 +87,7 @@ fn put_deps(file: &mut [u8; 128], d: Drawn, m: usize, from: usize)
 }
 
 // Puts the file of a drawn loop at the start of the array; its length.
-pub fn put_file(file: &mut [u8; 128], d: Drawn) -> usize
+pub fn put_file(file: &mut [u8; 2000], d: Drawn) -> usize
     ensures { λ r. ⌜ r ≤ 98 ⌝ }
 {
     let n = least(d.n, 6);
@@ -113,7 +113,7 @@ fn part(bytes: &[u8], len: usize) -> &[u8]
 }
 
 // The first bytes of the array.
-pub fn first(file: &[u8; 128], len: usize) -> &[u8]
+pub fn first(file: &[u8; 2000], len: usize) -> &[u8]
     ensures { λ r. ⌜ now r ≡ take len (now (file .entry)) ⌝ }
 {
     part(file, len)

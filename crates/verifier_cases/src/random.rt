@@ -1,86 +1,28 @@
 // 400 random lists: `verify` against the picture.
-use crate::files;
-use crate::picture;
 use std::num::wrapping_add_usize;
+use trial::draw;
+use trial::drawn::Drawn;
+use trial::drawn::NOWHERE;
+use trial::drawn::holds;
+use trial::drawn::only;
+use trial::file;
+use trial::picture;
+use trial::random::next;
+use trial::random::pick;
 use verifier::Verdict;
 
-// What a trial leaves: the generator's state, 1 where the two verdicts agree, else 0, and the kind of the verdict.
-struct Outcome {
+// The generator's state, and the counts in the order of the line that prints them: the lists that agree, and the verdicts of each kind.
+struct Tally {
     seed: usize,
-    agrees: usize,
-    kind: usize,
+    counts: [usize; 6],
 }
 
-// The generator's next state.
-fn next(seed: usize) -> usize {
-    (seed % 2147483648 * 1103515245 + 12345) % 2147483648
-}
-
-// The lowest byte.
-fn byte(x: usize) -> u8 {
-    (x % 256) as u8
-}
-
-// One of n numbers from the least on.
-fn pick(seed: usize, least: usize, n: usize) -> u8 {
-    if n == 0 {
-        return 0;
-    }
-    byte(wrapping_add_usize(seed / 65536 % n, least))
-}
-
-// 1 for three states of four, else 1 to 5: with more long uses hardly a list would be legal.
-fn duration(seed: usize) -> u8 {
-    if seed / 65536 % 4 < 3 {
-        1
-    } else {
-        pick(seed / 4, 1, 5)
-    }
-}
-
-// Two uses for each of three operations: slot 1 or 2, then 3 or 4.
-fn draw_uses(uses: &mut [u8; 12], seed: usize) -> usize {
-    let mut s = seed;
-    let mut k = 0;
-    while k < 3 {
-        s = next(s);
-        uses[4 * k] = pick(s, 1, 2);
-        s = next(s);
-        uses[4 * k + 1] = duration(s);
-        s = next(s);
-        uses[4 * k + 2] = pick(s, 3, 2);
-        s = next(s);
-        uses[4 * k + 3] = duration(s);
-        k += 1;
-    }
-    s
-}
-
-// A delay, as 6 more than it is: -6 to 0 for three states of four, else -6 to 6. So most dependences hold.
-fn delay(seed: usize) -> u8 {
-    if seed / 65536 % 4 < 3 {
-        pick(seed / 4, 0, 7)
-    } else {
-        pick(seed / 4, 0, 13)
-    }
-}
-
-// Three dependences among the operations, with distances 0 to 2.
-fn draw_deps(deps: &mut [u8; 12], seed: usize) -> usize {
-    let mut s = seed;
-    let mut k = 0;
-    while k < 3 {
-        s = next(s);
-        deps[4 * k] = pick(s, 0, 3);
-        s = next(s);
-        deps[4 * k + 1] = pick(s, 0, 3);
-        s = next(s);
-        deps[4 * k + 2] = delay(s);
-        s = next(s);
-        deps[4 * k + 3] = pick(s, 0, 3);
-        k += 1;
-    }
-    s
+// A loop of 3 operations and 0 to 3 dependences, with an interval from 1 to 5.
+fn draw_loop(seed: usize) -> Drawn {
+    let a = next(seed);
+    let b = next(a);
+    let d = draw::blank(b, 3, pick(b, 0, 4), pick(a, 1, 5), 8);
+    draw::draw_deps(draw::draw_uses(d, 3), 3)
 }
 
 // A start from 0 to 7.
@@ -88,8 +30,8 @@ fn start(seed: usize) -> u16 {
     (seed / 65536 % 8) as u16
 }
 
-// Three starts.
-fn draw_starts(starts: &mut [u16; 3], seed: usize) -> usize {
+// Three starts; the state behind them.
+fn draw_starts(starts: &mut [u16; 6], seed: usize) -> usize {
     let a = next(seed);
     let b = next(a);
     let c = next(b);
@@ -99,101 +41,118 @@ fn draw_starts(starts: &mut [u16; 3], seed: usize) -> usize {
     c
 }
 
-// Byte i of the dependences as the file has it: a delay, which stands as 6 more than it is, as a signed byte.
-fn stored(i: usize, x: u8) -> u8 {
-    if i % 4 == 2 {
-        byte(x as usize + 250)
-    } else {
-        x
+// The verifier's verdict. The list is longer than it has to be.
+fn verified(d: Drawn, starts: &[u16; 6]) -> Verdict {
+    let mut bytes = [0u8; 2000];
+    let len = file::put_file(&mut bytes, d);
+    verifier::verify(file::first(&bytes, len), d.interval as usize, starts)
+}
+
+// The picture of an operation.
+fn of_one(d: Drawn, starts: &[u16; 6], op: usize) -> [u8; 24] {
+    let one = only(starts, op, op);
+    picture::of_starts(d, &one, d.interval)
+}
+
+// Whether a cell is painted in both.
+fn both(p: &[u8; 24], q: &[u8; 24]) -> bool {
+    let mut found = false;
+    let mut i = 0;
+    while i < 24 {
+        found = found | ((0 < p[i]) & (0 < q[i]));
+        i += 1;
+    }
+    found
+}
+
+// Whether two operations conflict, or one with itself.
+fn conflict(d: Drawn, starts: &[u16; 6], a: usize, b: usize) -> bool {
+    let p = of_one(d, starts, a);
+    if a == b {
+        return picture::twice(&p);
+    }
+    let q = of_one(d, starts, b);
+    both(&p, &q)
+}
+
+// The first pair that conflicts.
+fn first_pair(d: Drawn, starts: &[u16; 6]) -> Verdict {
+    let mut k: usize = 0;
+    while k < 9 {
+        if (k / 3 <= k % 3) & conflict(d, starts, k / 3, k % 3) {
+            return Verdict::Conflict(k / 3, k % 3);
+        }
+        k += 1;
+    }
+    Verdict::Legal
+}
+
+// The verdict by the picture: the first dependence that does not hold, else the first pair.
+fn seen(d: Drawn, starts: &[u16; 6]) -> Verdict {
+    let mut e = 0;
+    while e < d.m {
+        if !holds(d, e, starts, d.interval) {
+            return Verdict::Broken(e);
+        }
+        e += 1;
+    }
+    first_pair(d, starts)
+}
+
+// A verdict as numbers: its count (1 legal, 2 a broken dependence, 3 a conflict of two, 4 of an operation with itself, 5 a refusal), and what it names.
+fn numbers(v: Verdict) -> [usize; 3] {
+    match v {
+        Verdict::Legal => [1, 0, 0],
+        Verdict::Broken(e) => [2, e, 0],
+        Verdict::Conflict(a, b) => { if a == b { [4, a, b] } else { [3, a, b] } }
+        Verdict::Refused(n, detail) => [5, n, detail],
     }
 }
 
-// The file of a random loop.
-fn file(uses: &[u8; 12], deps: &[u8; 12]) -> [u8; 56] {
-    let mut out = files::RANDOM;
-    let mut i = 0;
-    while i < 12 {
-        out[32 + i] = uses[i];
-        out[44 + i] = stored(i, deps[i]);
-        i += 1;
+// One more of a kind.
+fn more(counts: [usize; 6], kind: usize) -> [usize; 6] {
+    let mut out = counts;
+    if kind < 6 {
+        out[kind] = wrapping_add_usize(out[kind], 1);
     }
     out
 }
 
-// 0 legal, 1 a broken dependence, 2 a conflict of two, 3 of an operation with itself, 4 a refusal.
-fn kind(v: Verdict) -> usize {
-    match v {
-        Verdict::Legal => 0,
-        Verdict::Broken(_) => 1,
-        Verdict::Conflict(a, b) => { if a == b { 3 } else { 2 } }
-        Verdict::Refused(_, _) => 4,
+// The tally with one more list.
+fn with_list(t: Tally) -> Tally {
+    let d = draw_loop(t.seed);
+    let mut starts = [NOWHERE; 6];
+    let last = draw_starts(&mut starts, d.seed);
+    let v = numbers(verified(d, &starts));
+    let w = numbers(seen(d, &starts));
+    let before = t.counts;
+    let counts = more(before, v[0]);
+    let agrees = (v[0] == w[0]) & (v[1] == w[1]) & (v[2] == w[2]);
+    Tally {
+        seed: last,
+        counts: more(counts, if agrees { 0 } else { 6 }),
     }
 }
 
-// The first number of a verdict, 0 where it has none.
-fn first(v: Verdict) -> usize {
-    match v {
-        Verdict::Legal => 0,
-        Verdict::Broken(e) => e,
-        Verdict::Conflict(a, _) => a,
-        Verdict::Refused(n, _) => n,
-    }
+// How many random lists agree, and how many verdicts there are of each kind.
+fn print(t: Tally) {
+    let counts = t.counts;
+    console::form(
+        b"random: 400 lists, % agree: legal %, dependence %, conflict of two %, with itself %, refused %\n",
+        &counts,
+    );
 }
 
-// The second.
-fn second(v: Verdict) -> usize {
-    match v {
-        Verdict::Legal => 0,
-        Verdict::Broken(_) => 0,
-        Verdict::Conflict(_, b) => b,
-        Verdict::Refused(_, detail) => detail,
-    }
-}
-
-// Whether two verdicts are the same.
-fn same(v: Verdict, w: Verdict) -> bool {
-    (kind(v) == kind(w)) & (first(v) == first(w)) & (second(v) == second(w))
-}
-
-// The verifier's verdict on the file of the numbers drawn.
-fn verified(uses: &[u8; 12], deps: &[u8; 12], starts: &[u16; 3], interval: u8) -> Verdict {
-    let f = file(uses, deps);
-    verifier::verify(&f, interval as usize, starts)
-}
-
-// One list, for a loop and an interval from 1 to 6.
-fn trial(seed: usize) -> Outcome {
-    let mut uses = [0u8; 12];
-    let mut deps = [0u8; 12];
-    let mut starts = [0u16; 3];
-    let a = draw_uses(&mut uses, seed);
-    let b = draw_deps(&mut deps, a);
-    let c = draw_starts(&mut starts, b);
-    let after = next(c);
-    let interval = pick(after, 1, 6);
-    let found = verified(&uses, &deps, &starts, interval);
-    let seen = picture::verdict(&uses, &deps, &starts, interval);
-    Outcome {
-        seed: after,
-        agrees: if same(found, seen) { 1 } else { 0 },
-        kind: kind(found),
-    }
-}
-
-// How many of 400 lists agree; in kinds, how many verdicts of each kind there are.
-pub fn agreeing(kinds: &mut [usize; 5]) -> usize {
-    let mut seed = 1;
-    let mut agree = 0;
+// All lists, and the line.
+pub fn lists() {
+    let mut t = Tally {
+        seed: 1,
+        counts: [0usize; 6],
+    };
     let mut i: usize = 0;
     while i < 400 {
-        let t = trial(seed);
-        seed = t.seed;
-        agree = wrapping_add_usize(agree, t.agrees);
-        let k = t.kind;
-        if k < 5 {
-            kinds[k] = wrapping_add_usize(kinds[k], 1);
-        }
+        t = with_list(t);
         i += 1;
     }
-    agree
+    print(t);
 }

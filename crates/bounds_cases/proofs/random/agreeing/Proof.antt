@@ -1,6 +1,6 @@
--- `agreeing` is safe and ends: its loop counts up, and the measure is the loops left. Assumes nothing.
+-- `agreeing` is safe and ends: its loop counts up, and the measure is what is left. Assumes nothing.
 use Prim.Native.Nat.{_-_}
-use borrow.Author.Needs.{needs}
+use native.Mathlib.Omega.{arith}
 use Rattle.bounds_cases.proofs.random.agreeing.Statement.{statement}
 use Rattle.bounds_cases.proofs.random.agreeing.Tie as tie
 
@@ -11,25 +11,34 @@ abbrev μ-loop : tie.MeasureT-loop
 μ-loop seed₀ agree₀ i₀ seed agree i = 400 - i
 
 loop-holds : tie.Need-loop-holds Inv-loop μ-loop
-loop-holds c = search needs
+loop-holds c = tt
 
-trial-requires : tie.Need-trial-requires Inv-loop μ-loop
-trial-requires c κs = search needs
+draw-loop-requires : tie.Need-draw-loop-requires Inv-loop μ-loop
+draw-loop-requires c κs = tt
+
+computed-requires : tie.Need-computed-requires Inv-loop μ-loop
+computed-requires c κs = tt
+
+bound-requires : tie.Need-bound-requires Inv-loop μ-loop
+bound-requires c κs = tt
+
+same-requires : tie.Need-same-requires Inv-loop μ-loop
+same-requires c κs = tt
 
 wrapping-add-usize-requires : tie.Need-wrapping-add-usize-requires Inv-loop μ-loop
-wrapping-add-usize-requires c κs = search needs
+wrapping-add-usize-requires c κs = tt
 
 add-i : tie.Need-add-i Inv-loop μ-loop
-add-i c = search needs
+add-i c = omega arith
 
 loop-less : tie.Need-loop-less Inv-loop μ-loop
-loop-less c = search needs
+loop-less c = omega arith
 
 loop-again : tie.Need-loop-again Inv-loop μ-loop
-loop-again c = search needs
+loop-again c = tt
 
 returns : tie.Need-returns Inv-loop μ-loop
-returns c = search needs
+returns c = tt
 
 pub agreeing-spec : {M : Type 1} → statement M
 agreeing-spec =
@@ -38,7 +47,10 @@ agreeing-spec =
     Inv-loop
     μ-loop
     loop-holds
-    trial-requires
+    draw-loop-requires
+    computed-requires
+    bound-requires
+    same-requires
     wrapping-add-usize-requires
     add-i
     loop-less

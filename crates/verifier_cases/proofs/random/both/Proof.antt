@@ -1,35 +1,35 @@
--- `both` is safe and ends: its loop counts up, and the measure is the cells left. Assumes nothing.
+-- `both` is safe and ends: its loop counts up, and the measure is what is left. Assumes nothing.
 use Prim.Native.Nat.{_-_}
-use borrow.Author.Needs.{needs}
-use Rattle.verifier_cases.proofs.picture.both.Statement.{statement}
-use Rattle.verifier_cases.proofs.picture.both.Tie as tie
+use native.Mathlib.Omega.{arith}
+use Rattle.verifier_cases.proofs.random.both.Statement.{statement}
+use Rattle.verifier_cases.proofs.random.both.Tie as tie
 
 abbrev Inv-loop : tie.InvT-loop
 Inv-loop p q found₀ i₀ found i = Unit
 
 abbrev μ-loop : tie.MeasureT-loop
-μ-loop p q found₀ i₀ found i = 32 - i
+μ-loop p q found₀ i₀ found i = 24 - i
 
 loop-holds : tie.Need-loop-holds Inv-loop μ-loop
-loop-holds c = search needs
+loop-holds c = tt
 
 element-copy-out-found : tie.Need-element-copy-out-found Inv-loop μ-loop
-element-copy-out-found c = search needs
+element-copy-out-found c = omega arith
 
 element-copy-out-found-2 : tie.Need-element-copy-out-found-2 Inv-loop μ-loop
-element-copy-out-found-2 c = search needs
+element-copy-out-found-2 c = omega arith
 
 add-i : tie.Need-add-i Inv-loop μ-loop
-add-i c = search needs
+add-i c = omega arith
 
 loop-less : tie.Need-loop-less Inv-loop μ-loop
-loop-less c = search needs
+loop-less c = omega arith
 
 loop-again : tie.Need-loop-again Inv-loop μ-loop
-loop-again c = search needs
+loop-again c = tt
 
 returns : tie.Need-returns Inv-loop μ-loop
-returns c = search needs
+returns c = tt
 
 pub both-spec : {M : Type 1} → statement M
 both-spec =
