@@ -20,6 +20,11 @@ fn print(found: LowerBounds) {
     }
 }
 
+// The bounds of the first bytes.
+fn answer(file: &[u8; 2000], len: usize) {
+    print(bounds::bounds(first(file, len)));
+}
+
 // Puts a byte, where the array has the place.
 fn put(file: &mut [u8; 2000], at: usize, v: usize) {
     if at < 2000 {
@@ -42,16 +47,16 @@ fn put_bytes(file: &mut [u8; 2000], to: usize, count: usize, line: &[u8], at: us
 
 // A line of the table: its name, and the bounds. One that begins with `#` is a comment.
 fn replay_line(line: &[u8]) {
+    let mut file = [0u8; 2000];
     let mut q = [0usize; 4];
     let at = console::numbers(line, 0, &mut q);
-    let mut file = [0u8; 2000];
     trial::loops::put_loop(&mut file, q[0]);
     let next = put_bytes(&mut file, q[2], q[3], line, at);
     if next < line.len() {
         if line[0] != b'#' {
             let name = next + 1;
             io::write_all(1, &line[name..]);
-            print(bounds::bounds(first(&file, q[1])));
+            answer(&file, q[1]);
         }
     }
 }

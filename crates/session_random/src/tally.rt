@@ -71,7 +71,7 @@ fn counted(counts: [usize; 20], agrees: bool) -> [usize; 20] {
     if agrees {
         return more(more(counts, 2), 1);
     }
-    console::form(b"call %: differ\n", &[counts[1]]);
+    console::form(b"list %, call %: differ\n", &counts);
     more(counts, 1)
 }
 
@@ -110,4 +110,11 @@ pub fn print(t: Tally) {
         b"% lists, % calls, % agree: placed %, forced with none displaced %, with one %, with several %, removed %, checkpoints %, released %, rolled back %, refused by 12:% 13:% 14:% 15:% 16:% 17:% 18:% 19:%, other %\n",
         &counts,
     );
+}
+
+// A last line for all lists.
+pub fn print_all(t: Tally) {
+    let counts = t.counts;
+    let numbers = [counts[2], counts[1], counts[0]];
+    console::form(b"% of % calls agree in % lists\n", &numbers);
 }
