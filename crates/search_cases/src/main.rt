@@ -31,37 +31,35 @@ fn clamp(x: usize, limit: usize) -> usize
     if x < limit { x } else { limit }
 }
 
-// A search with memory that is lent, and what it leaves there.
-fn searched(
-    file: &[u8],
-    cap: usize,
-    horizon: usize,
-    allowance: usize,
-    list: &mut [u16],
-    rows: &mut [u64],
-) {
-    answered(search::search(file, cap, horizon, allowance, list, rows));
+// The search of the first bytes with the numbers of a case, in memory that is lent.
+fn searched(bytes: &[u8], q: &[usize; 9], list: &mut [u16], rows: &mut [u64]) {
+    let n = clamp(q[1], bytes.len());
+    answered(search::search(&bytes[0..n], q[4], q[5], q[6], list, rows));
+}
+
+// The same, and what it leaves there.
+fn shown(bytes: &[u8], q: &[usize; 9], list: &mut [u16], rows: &mut [u64]) {
+    searched(bytes, q, list, rows);
     memory::show_list(list);
     memory::show_rows(rows);
 }
 
-// The search of a file with the numbers of a case, and as much of a list and a table as it says.
-fn run(file: &[u8], q: &[usize; 9]) {
+// The same, with as much of a list and a table as the case says.
+fn run(bytes: &[u8; 2000], q: &[usize; 9]) {
     let mut list = [65535u16; 66];
     let mut rows = [18446744073709551615u64; 4100];
     let l = clamp(q[7], 66);
     let r = clamp(q[8], 4100);
-    searched(file, q[4], q[5], q[6], &mut list[0..l], &mut rows[0..r]);
+    shown(bytes, q, &mut list[0..l], &mut rows[0..r]);
 }
 
-// The same with the file of the case.
-fn of_file(q: &[usize; 9]) {
-    let mut file = [0u8; 2000];
-    trial::loops::put_loop(&mut file, q[0]);
-    let at = clamp(q[2], 1999);
-    file[at] = (q[3] % 256) as u8;
-    let n = clamp(q[1], 2000);
-    run(&file[0..n], q);
+// Puts the file of a case, with its byte.
+fn put_file(bytes: &mut [u8; 2000], q: &[usize; 9]) {
+    trial::loops::put_loop(bytes, q[0]);
+    let at = q[2];
+    if at < 2000 {
+        bytes[at] = (q[3] % 256) as u8;
+    }
 }
 
 // A case: `NAME, cap C, horizon H, allowance A, list L, rows R`, and its search.
@@ -74,7 +72,9 @@ fn case(line: &[u8]) {
     }
     let numbers = [q[4], q[5], q[6], q[7], q[8]];
     console::form(b", cap %, horizon %, allowance %, list %, rows %", &numbers);
-    of_file(&q);
+    let mut bytes = [0u8; 2000];
+    put_file(&mut bytes, &q);
+    run(&bytes, &q);
     io::write_all(1, b"\n");
 }
 
