@@ -2,94 +2,78 @@
 use session::Checked;
 use session::Reply;
 use session::Session;
+ghost use Prim.Native.Nat.{_≤_};
 
 // What stands in each row of a table before it is lent. No row of a session is this large.
 pub const UNTOUCHED: u64 = 18446744073709551615;
 
-// A text, and a number behind it.
-pub fn number(text: &[u8], n: usize) {
-    value(text, n as u64);
-}
-
-// The same, for a row or a mask.
-fn value(text: &[u8], v: u64) {
-    io::write_all(1, text);
-    io::print_decimal(1, v);
-}
-
-// `: refused N at D`.
-fn refused(n: usize, detail: usize) {
-    number(b": refused ", n);
-    number(b" at ", detail);
-}
-
-// `: done`, `: displaced M`, `: number C`, or a refusal.
-fn replied(reply: Reply) {
+// `: done`, `: displaced M`, `: number C`, or `: refused N at D`.
+pub fn replied(reply: Reply) {
     match reply {
         Reply::Done => {
             io::write_all(1, b": done");
         }
-        Reply::Displaced(mask) => value(b": displaced ", mask),
-        Reply::Numbered(m) => number(b": number ", m),
-        Reply::Refused(n, detail) => refused(n, detail),
-    }
-}
-
-// `: fine`, or a refusal.
-fn checked(answer: Checked) {
-    match answer {
-        Checked::Fine => {
-            io::write_all(1, b": fine");
+        Reply::Displaced(mask) => {
+            console::form(b": displaced %", &[mask as usize]);
         }
-        Checked::Refused(n, detail) => refused(n, detail),
+        Reply::Numbered(m) => {
+            console::form(b": number %", &[m]);
+        }
+        Reply::Refused(n, detail) => {
+            console::form(b": refused % at %", &[n, detail]);
+        }
     }
 }
 
-// A start as a number.
-fn wide(start: u16) -> usize {
-    start as usize
+// ` O@S` where the operation is placed; 1 for a placed one.
+fn start(op: usize, at: u16) -> usize
+    ensures { λ r. ⌜ r ≤ 1 ⌝ }
+{
+    if at == 65535 {
+        return 0;
+    }
+    console::form(b" %@%", &[op, at as usize]);
+    1
 }
 
 // `; starts O@S O@S ..` with the placed operations, or `; starts none`.
 fn starts(at: &[u16; 64]) {
     io::write_all(1, b"; starts");
-    let mut none = true;
+    let mut placed = 0;
     let mut op = 0;
     while op < 64 {
-        if at[op] != 65535 {
-            number(b" ", op);
-            number(b"@", wide(at[op]));
-            none = false;
-        }
+        placed += start(op, at[op]);
         op += 1;
     }
-    if none {
+    if placed == 0 {
         io::write_all(1, b" none");
     }
 }
 
-// Prints each row.
-fn each(rows: &[u64]) {
-    let mut i = 0;
-    while i < rows.len() {
-        value(b" ", rows[i]);
-        i += 1;
+// A row: ` V`, or, where only the rows that are not 0 are shown, ` R:V`; 1 where it is shown.
+fn row(sparse: bool, i: usize, v: u64) -> usize
+    ensures { λ r. ⌜ r ≤ 1 ⌝ }
+{
+    if !sparse {
+        console::form(b" %", &[v as usize]);
+        return 1;
     }
+    if v == 0 {
+        return 0;
+    }
+    console::form(b" %:%", &[i, v as usize]);
+    1
 }
 
-// Prints the rows that are not 0, as ` R:V`, or ` clear`.
-fn filled(rows: &[u64]) {
-    let mut clear = true;
+// Each row up to 8, or those of more that are not 0; ` clear` where none is shown.
+fn each(rows: &[u64]) {
+    let mut shown = 0;
     let mut i = 0;
     while i < rows.len() {
-        if rows[i] != 0 {
-            number(b" ", i);
-            value(b":", rows[i]);
-            clear = false;
-        }
+        shown += row(8 < rows.len(), i, rows[i]);
         i += 1;
     }
-    if clear {
+    if shown == 0 {
         io::write_all(1, b" clear");
     }
 }
@@ -106,55 +90,43 @@ fn untouched(rows: &[u64]) -> bool {
     true
 }
 
-// The rows beyond the interval: ` then kept`, ` then changed`, or nothing where there are none.
-fn beyond(rows: &[u64]) {
-    if rows.len() == 0 {
+// `; rows` with those of the interval, and of the rows beyond it ` then kept`, ` then changed`, or nothing where there are none.
+fn table(rows: &[u64], interval: usize) {
+    io::write_all(1, b"; rows");
+    if rows.len() < interval {
         return;
     }
-    if untouched(rows) {
+    each(&rows[0..interval]);
+    if rows.len() == interval {
+        return;
+    }
+    if untouched(&rows[interval..]) {
         io::write_all(1, b" then kept");
     } else {
         io::write_all(1, b" then changed");
     }
 }
 
-// `; rows V V ..` for an interval up to 8, else `; rows R:V ..` with those that are not 0; and the rows beyond.
-fn table(rows: &[u64], interval: usize) {
-    io::write_all(1, b"; rows");
-    if interval <= rows.len() {
-        if interval <= 8 {
-            each(&rows[0..interval]);
-        } else {
-            filled(&rows[0..interval]);
-        }
-        beyond(&rows[interval..]);
-    }
-}
-
 // The session and its table, to the end of the line.
-fn state(s: Session, rows: &[u64]) {
+pub fn state(s: Session, rows: &[u64]) {
     let placed = s.starts;
     starts(&placed.at);
-    number(b"; checkpoints ", s.marks);
+    console::form(b"; checkpoints %", &[s.marks]);
     table(rows, s.interval);
     io::write_all(1, b"\n");
 }
 
-// A call's answer, with what it left.
-pub fn outcome(s: Session, rows: &[u64], reply: Reply) {
-    replied(reply);
-    state(s, rows);
-}
-
 // The answer of an opening, with what it left.
-pub fn opening(s: Session, rows: &[u64], answer: Checked) {
-    checked(answer);
+pub fn opened(s: Session, rows: &[u64]) {
+    io::write_all(1, b": fine");
     state(s, rows);
 }
 
 // The answer of a refused opening, and whether the table is as it was.
 pub fn shut(rows: &[u64], answer: Checked) {
-    checked(answer);
+    if let Checked::Refused(n, detail) = answer {
+        console::form(b": refused % at %", &[n, detail]);
+    }
     if untouched(rows) {
         io::write_all(1, b"; rows kept\n");
     } else {
