@@ -12,14 +12,14 @@ fn answered(found: Searched) {
             let numbers = [s.interval, s.resource, s.recurrence, s.stages, s.probes];
             console::form(
                 b": interval % resource % recurrence % stages % probes %",
-                &numbers,
+                numbers,
             );
         }
         Searched::Ended(n, detail, probes) => {
-            console::form(b": refused % at % after %", &[n, detail, probes]);
+            console::form(b": refused % at % after %", [n, detail, probes, 0, 0]);
         }
         Searched::Refused(n, detail) => {
-            console::form(b": refused % at %", &[n, detail]);
+            console::form(b": refused % at %", [n, detail, 0, 0, 0]);
         }
     }
 }
@@ -71,7 +71,7 @@ fn case(line: &[u8]) {
         io::write_all(1, &line[name..]);
     }
     let numbers = [q[4], q[5], q[6], q[7], q[8]];
-    console::form(b", cap %, horizon %, allowance %, list %, rows %", &numbers);
+    console::form(b", cap %, horizon %, allowance %, list %, rows %", numbers);
     let mut bytes = [0u8; 2000];
     put_file(&mut bytes, &q);
     run(&bytes, &q);

@@ -9,7 +9,7 @@ fn show_place(start: u16, kept: usize) -> usize
         return 1;
     }
     if kept == 0 {
-        console::form(b" %", &[start as usize]);
+        console::form(b" %", [start as usize, 0, 0, 0, 0]);
     } else {
         io::write_all(1, b" !");
     }

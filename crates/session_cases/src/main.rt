@@ -61,18 +61,15 @@ fn step(s: Session, rows: &mut [u64], c: Call) -> Outcome
 
 // `  place O at S`, `  force O at S`, `  remove O`, `  checkpoint`, `  release` or `  rollback M`.
 fn asked(c: Call) {
-    if c.kind == 1 {
-        console::form(b"  place % at %", &[c.op, c.start]);
-    } else if c.kind == 2 {
-        console::form(b"  force % at %", &[c.op, c.start]);
-    } else if c.kind == 3 {
-        console::form(b"  remove %", &[c.op]);
-    } else if c.kind == 4 {
-        io::write_all(1, b"  checkpoint");
-    } else if c.kind == 5 {
-        io::write_all(1, b"  release");
-    } else {
-        console::form(b"  rollback %", &[c.op]);
+    let k = c.kind;
+    let numbers = [c.op, c.start, 0, 0, 0];
+    match k {
+        1 => console::form(b"  place % at %", numbers),
+        2 => console::form(b"  force % at %", numbers),
+        3 => console::form(b"  remove %", numbers),
+        4 => console::form(b"  checkpoint", numbers),
+        5 => console::form(b"  release", numbers),
+        _ => console::form(b"  rollback %", numbers),
     }
 }
 
@@ -86,11 +83,8 @@ fn made(s: Session, rows: &mut [u64], c: Call) -> Session
     }
     asked(c);
     let o = step(s, rows, c);
-    let t = o.session;
-    let reply = o.reply;
-    show::replied(reply);
-    show::state(t, rows);
-    t
+    show::outcome(o, rows);
+    o.session
 }
 
 // The calls up to the next opening.
@@ -117,10 +111,9 @@ fn clamp(x: usize, limit: usize) -> usize
     if x < limit { x } else { limit }
 }
 
-// Opens a session of the first bytes, in rows that are lent, and makes the calls of the table that follows.
-fn play(bytes: &[u8], q: &[usize; 8], table: &[u8], rows: &mut [u64]) {
-    let n = clamp(q[2], bytes.len());
-    let o = session::open(&bytes[0..n], q[5], q[6], rows);
+// Opens a session of a file, in rows that are lent, and makes the calls of the table that follows.
+fn play(file: &[u8], interval: usize, horizon: usize, table: &[u8], rows: &mut [u64]) {
+    let o = session::open(file, interval, horizon, rows);
     let answer = o.answer;
     let Checked::Fine = answer else {
         show::shut(rows, answer);
@@ -131,11 +124,17 @@ fn play(bytes: &[u8], q: &[usize; 8], table: &[u8], rows: &mut [u64]) {
     calls(table, s, rows);
 }
 
-// The same, with as many rows as the opening says.
-fn lent(bytes: &[u8; 2000], q: &[usize; 8], table: &[u8]) {
+// The same, for the first of these bytes and with as many rows as the opening says.
+fn lent(bytes: &[u8], q: &[usize; 8], table: &[u8]) {
     let mut rows = [UNTOUCHED; 4100];
-    let n = clamp(q[7], 4100);
-    play(bytes, q, table, &mut rows[0..n]);
+    let r = clamp(q[7], 4100);
+    let n = clamp(q[2], bytes.len());
+    play(&bytes[0..n], q[5], q[6], table, &mut rows[0..r]);
+}
+
+// The same, of an array.
+fn of_array(bytes: &[u8; 2000], q: &[usize; 8], table: &[u8]) {
+    lent(bytes, q, table);
 }
 
 // Puts the file of an opening, with its byte.
@@ -147,18 +146,30 @@ fn put_file(bytes: &mut [u8; 2000], q: &[usize; 8]) {
     }
 }
 
-// An opening and its calls: `NAME, interval I, horizon H, table T`, and what comes of it.
+// Writes what follows a place of a line.
+fn rest(line: &[u8], at: usize) {
+    if at < line.len() {
+        let next = at + 1;
+        io::write_all(1, &line[next..]);
+    }
+}
+
+// Reads the numbers of an opening, and writes `NAME, interval I, horizon H, table T`.
+fn heading(line: &[u8], q: &mut [usize; 8]) {
+    rest(line, console::numbers(line, 0, q));
+    console::form(
+        b", interval %, horizon %, table %",
+        [q[5], q[6], q[7], 0, 0],
+    );
+}
+
+// An opening and its calls.
 fn scene(line: &[u8], table: &[u8]) {
     let mut q = [0usize; 8];
-    let at = console::numbers(line, 0, &mut q);
-    if at < line.len() {
-        let name = at + 1;
-        io::write_all(1, &line[name..]);
-    }
-    console::form(b", interval %, horizon %, table %", &[q[5], q[6], q[7]]);
+    heading(line, &mut q);
     let mut bytes = [0u8; 2000];
     put_file(&mut bytes, &q);
-    lent(&bytes, &q, table);
+    of_array(&bytes, &q, table);
 }
 
 // The openings of the table, each with what follows its line.

@@ -1,5 +1,6 @@
 // What a line shows: an answer, the placed operations with their starts, how many checkpoints are open, and the table.
 use session::Checked;
+use session::Outcome;
 use session::Reply;
 use session::Session;
 ghost use Prim.Native.Nat.{_≤_};
@@ -7,21 +8,24 @@ ghost use Prim.Native.Nat.{_≤_};
 // What stands in each row of a table before it is lent. No row of a session is this large.
 pub const UNTOUCHED: u64 = 18446744073709551615;
 
-// `: done`, `: displaced M`, `: number C`, or `: refused N at D`.
-pub fn replied(reply: Reply) {
+// `: refused N at D`.
+fn refused(n: usize, detail: usize) {
+    console::form(b": refused % at %", [n, detail, 0, 0, 0]);
+}
+
+// `: done`, `: displaced M`, `: number C`, or a refusal.
+fn replied(reply: Reply) {
     match reply {
         Reply::Done => {
             io::write_all(1, b": done");
         }
         Reply::Displaced(mask) => {
-            console::form(b": displaced %", &[mask as usize]);
+            console::form(b": displaced %", [mask as usize, 0, 0, 0, 0]);
         }
         Reply::Numbered(m) => {
-            console::form(b": number %", &[m]);
+            console::form(b": number %", [m, 0, 0, 0, 0]);
         }
-        Reply::Refused(n, detail) => {
-            console::form(b": refused % at %", &[n, detail]);
-        }
+        Reply::Refused(n, detail) => refused(n, detail),
     }
 }
 
@@ -32,7 +36,7 @@ fn start(op: usize, at: u16) -> usize
     if at == 65535 {
         return 0;
     }
-    console::form(b" %@%", &[op, at as usize]);
+    console::form(b" %@%", [op, at as usize, 0, 0, 0]);
     1
 }
 
@@ -55,13 +59,13 @@ fn row(sparse: bool, i: usize, v: u64) -> usize
     ensures { λ r. ⌜ r ≤ 1 ⌝ }
 {
     if !sparse {
-        console::form(b" %", &[v as usize]);
+        console::form(b" %", [v as usize, 0, 0, 0, 0]);
         return 1;
     }
     if v == 0 {
         return 0;
     }
-    console::form(b" %:%", &[i, v as usize]);
+    console::form(b" %:%", [i, v as usize, 0, 0, 0]);
     1
 }
 
@@ -90,30 +94,41 @@ fn untouched(rows: &[u64]) -> bool {
     true
 }
 
-// `; rows` with those of the interval, and of the rows beyond it ` then kept`, ` then changed`, or nothing where there are none.
-fn table(rows: &[u64], interval: usize) {
-    io::write_all(1, b"; rows");
-    if rows.len() < interval {
+// The rows beyond the interval: ` then kept`, ` then changed`, or nothing where there are none.
+fn beyond(rows: &[u64]) {
+    if rows.len() == 0 {
         return;
     }
-    each(&rows[0..interval]);
-    if rows.len() == interval {
-        return;
-    }
-    if untouched(&rows[interval..]) {
+    if untouched(rows) {
         io::write_all(1, b" then kept");
     } else {
         io::write_all(1, b" then changed");
     }
 }
 
+// `; rows` with those of the interval, and the rows beyond it.
+fn table(rows: &[u64], interval: usize) {
+    io::write_all(1, b"; rows");
+    if interval <= rows.len() {
+        each(&rows[0..interval]);
+        beyond(&rows[interval..]);
+    }
+}
+
 // The session and its table, to the end of the line.
-pub fn state(s: Session, rows: &[u64]) {
+fn state(s: Session, rows: &[u64]) {
     let placed = s.starts;
     starts(&placed.at);
-    console::form(b"; checkpoints %", &[s.marks]);
+    console::form(b"; checkpoints %", [s.marks, 0, 0, 0, 0]);
     table(rows, s.interval);
     io::write_all(1, b"\n");
+}
+
+// The answer of a call, with what it left.
+pub fn outcome(o: Outcome, rows: &[u64]) {
+    let reply = o.reply;
+    replied(reply);
+    state(o.session, rows);
 }
 
 // The answer of an opening, with what it left.
@@ -125,11 +140,12 @@ pub fn opened(s: Session, rows: &[u64]) {
 // The answer of a refused opening, and whether the table is as it was.
 pub fn shut(rows: &[u64], answer: Checked) {
     if let Checked::Refused(n, detail) = answer {
-        console::form(b": refused % at %", &[n, detail]);
+        refused(n, detail);
     }
+    io::write_all(1, b"; rows");
     if untouched(rows) {
-        io::write_all(1, b"; rows kept\n");
+        io::write_all(1, b" kept\n");
     } else {
-        io::write_all(1, b"; rows changed\n");
+        io::write_all(1, b" changed\n");
     }
 }

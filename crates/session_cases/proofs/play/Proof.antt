@@ -1,51 +1,30 @@
 -- `play` is safe: where opening answers fine, the session and the rows are those that calls take. Assumes nothing.
-use native.Mathlib.Omega.{arith}
 use mathlib.Core.Path.{sym, ap, _∙_}
+use borrow.Author.Needs.{needs}
 use Rattle.session.specs.View.{setupOf, openingOf}
 use Rattle.session_cases.proofs.play.Statement.{statement}
 use Rattle.session_cases.proofs.play.Tie as tie
 
-element-copy-out-clamp : tie.Need-element-copy-out-clamp
-element-copy-out-clamp c = omega arith
-
-clamp-requires : tie.Need-clamp-requires
-clamp-requires c κs = tt
-
-sub-open : tie.Need-sub-open
-sub-open c = omega arith
-
-part-open-start : tie.Need-part-open-start
-part-open-start c = omega arith
-
-part-open-end : tie.Need-part-open-end
-part-open-end c = omega arith
-
-element-copy-out-open : tie.Need-element-copy-out-open
-element-copy-out-open c = omega arith
-
-element-copy-out-open-2 : tie.Need-element-copy-out-open-2
-element-copy-out-open-2 c = omega arith
-
 open-requires : tie.Need-open-requires
-open-requires c κs = tt
+open-requires c κs = search needs
 
 enum-told : tie.Need-enum-told
-enum-told c = omega arith
+enum-told c = search needs
 
 enum-told-2 : tie.Need-enum-told-2
-enum-told-2 c = omega arith
+enum-told-2 c = search needs
 
 shut-requires : tie.Need-shut-requires
-shut-requires c κs = tt
+shut-requires c κs = search needs
 
 same-length : tie.Need-same-length
-same-length c = omega arith
+same-length c = search needs
 
 returns : tie.Need-returns
-returns c = tt
+returns c = search needs
 
 opened-requires : tie.Need-opened-requires
-opened-requires c κs = tt
+opened-requires c κs = search needs
 
 calls-requires : tie.Need-calls-requires
 calls-requires c κs =
@@ -54,22 +33,15 @@ calls-requires c κs =
     o .ensures .valid (setupOf (o .result .session)) (sym (o .ensures .says) ∙ ap (openingOf (o .result .session)) (d .enum-told .given .1))
 
 same-length-2 : tie.Need-same-length-2
-same-length-2 c = omega arith
+same-length-2 c = search needs
 
 returns-2 : tie.Need-returns-2
-returns-2 c = tt
+returns-2 c = search needs
 
 pub play-spec : {M : Type 1} → statement M
 play-spec =
     tie.close
     (tie.spec
-    element-copy-out-clamp
-    clamp-requires
-    sub-open
-    part-open-start
-    part-open-end
-    element-copy-out-open
-    element-copy-out-open-2
     open-requires
     enum-told
     enum-told-2
