@@ -3,24 +3,35 @@
 mod memory;
 
 use search::Searched;
+use search::Solution;
+use trial::loops::put_changed;
 ghost use Prim.Native.Nat.{_≤_};
 
-// `: interval I resource R recurrence B stages S probes P`, `: refused N at D after K` for 10 and 11, or `: refused N at D`.
-fn answered(found: Searched) {
-    match found {
-        Searched::Found(s) => {
-            let numbers = [s.interval, s.resource, s.recurrence, s.stages, s.probes];
-            console::form(
-                b": interval % resource % recurrence % stages % probes %",
-                numbers,
-            );
-        }
-        Searched::Ended(n, detail, probes) => {
-            console::form(b": refused % at % after %", [n, detail, probes, 0, 0]);
-        }
-        Searched::Refused(n, detail) => {
-            console::form(b": refused % at %", [n, detail, 0, 0, 0]);
-        }
+// `: interval I resource R recurrence B stages S probes P`.
+fn found(s: Solution) {
+    let numbers = [s.interval, s.resource, s.recurrence, s.stages, s.probes];
+    console::form(
+        b": interval % resource % recurrence % stages % probes %",
+        numbers,
+    );
+}
+
+// `: refused N at D after K`.
+fn ended(n: usize, detail: usize, probes: usize) {
+    console::form(b": refused % at % after %", [n, detail, probes, 0, 0]);
+}
+
+// `: refused N at D`.
+fn refused(n: usize, detail: usize) {
+    console::form(b": refused % at %", [n, detail, 0, 0, 0]);
+}
+
+// One of these: the second for 10 and 11.
+fn answered(answer: Searched) {
+    match answer {
+        Searched::Found(s) => found(s),
+        Searched::Ended(n, detail, probes) => ended(n, detail, probes),
+        Searched::Refused(n, detail) => refused(n, detail),
     }
 }
 
@@ -53,27 +64,27 @@ fn run(bytes: &[u8; 2000], q: &[usize; 9]) {
     shown(bytes, q, &mut list[0..l], &mut rows[0..r]);
 }
 
-// Puts the file of a case, with its byte.
-fn put_file(bytes: &mut [u8; 2000], q: &[usize; 9]) {
-    trial::loops::put_loop(bytes, q[0]);
-    let at = q[2];
-    if at < 2000 {
-        bytes[at] = (q[3] % 256) as u8;
+// Writes what follows a place of a line.
+fn rest(line: &[u8], at: usize) {
+    if at < line.len() {
+        let next = at + 1;
+        io::write_all(1, &line[next..]);
     }
 }
 
-// A case: `NAME, cap C, horizon H, allowance A, list L, rows R`, and its search.
-fn case(line: &[u8]) {
-    let mut q = [0usize; 9];
-    let at = console::numbers(line, 0, &mut q);
-    if at < line.len() {
-        let name = at + 1;
-        io::write_all(1, &line[name..]);
-    }
+// Reads the numbers of a case, and writes `NAME, cap C, horizon H, allowance A, list L, rows R`.
+fn heading(line: &[u8], q: &mut [usize; 9]) {
+    rest(line, console::numbers(line, 0, q));
     let numbers = [q[4], q[5], q[6], q[7], q[8]];
     console::form(b", cap %, horizon %, allowance %, list %, rows %", numbers);
+}
+
+// A case, and its search.
+fn case(line: &[u8]) {
+    let mut q = [0usize; 9];
+    heading(line, &mut q);
     let mut bytes = [0u8; 2000];
-    put_file(&mut bytes, &q);
+    put_changed(&mut bytes, q[0], q[2], (q[3] % 256) as u8);
     run(&bytes, &q);
     io::write_all(1, b"\n");
 }

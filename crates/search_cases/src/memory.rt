@@ -50,16 +50,22 @@ fn pass(rows: &[u64], from: usize, v: u64) -> usize {
     i
 }
 
+// How many rows are cleared, from the first on, where all others are as they were; else 1.
+fn cleared(rows: &[u64]) -> usize {
+    let n = pass(rows, 0, 0);
+    if pass(rows, n, 18446744073709551615) < rows.len() {
+        1
+    } else {
+        n
+    }
+}
+
 // `; rows kept`, `; rows cleared` where the first 4,096 and no others are, or `; rows changed`.
 pub fn show_rows(rows: &[u64]) {
-    let cleared = pass(rows, 0, 0);
-    if pass(rows, cleared, 18446744073709551615) < rows.len() {
-        io::write_all(1, b"; rows changed");
-        return;
-    }
-    if cleared == 0 {
+    let n = cleared(rows);
+    if n == 0 {
         io::write_all(1, b"; rows kept");
-    } else if cleared == 4096 {
+    } else if n == 4096 {
         io::write_all(1, b"; rows cleared");
     } else {
         io::write_all(1, b"; rows changed");

@@ -6,6 +6,7 @@ use session::Checked;
 use session::Outcome;
 use session::Session;
 use show::UNTOUCHED;
+use trial::loops::put_changed;
 ghost use Prim.Native.Nat.{_≤_};
 ghost use Rattle.session.specs.View.{Valid};
 
@@ -137,15 +138,6 @@ fn of_array(bytes: &[u8; 2000], q: &[usize; 8], table: &[u8]) {
     lent(bytes, q, table);
 }
 
-// Puts the file of an opening, with its byte.
-fn put_file(bytes: &mut [u8; 2000], q: &[usize; 8]) {
-    trial::loops::put_loop(bytes, q[1]);
-    let at = q[3];
-    if at < 2000 {
-        bytes[at] = (q[4] % 256) as u8;
-    }
-}
-
 // Writes what follows a place of a line.
 fn rest(line: &[u8], at: usize) {
     if at < line.len() {
@@ -168,7 +160,7 @@ fn scene(line: &[u8], table: &[u8]) {
     let mut q = [0usize; 8];
     heading(line, &mut q);
     let mut bytes = [0u8; 2000];
-    put_file(&mut bytes, &q);
+    put_changed(&mut bytes, q[1], q[3], (q[4] % 256) as u8);
     of_array(&bytes, &q, table);
 }
 
