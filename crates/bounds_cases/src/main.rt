@@ -12,10 +12,13 @@ use trial::file::first;
 fn print(found: LowerBounds) {
     match found {
         LowerBounds::Found(resource, recurrence) => {
-            console::form(b": resource % recurrence %\n", &[resource, recurrence]);
+            console::form(
+                b": resource % recurrence %\n",
+                [resource, recurrence, 0, 0, 0],
+            );
         }
         LowerBounds::Refused(number, detail) => {
-            console::form(b": refused % at %\n", &[number, detail]);
+            console::form(b": refused % at %\n", [number, detail, 0, 0, 0]);
         }
     }
 }
@@ -76,5 +79,8 @@ fn main() {
     let input = console::read_all(&mut table);
     let n = input.count;
     replay(&table[..n]);
-    console::form(b"random: 400 loops, % agree\n", &[random::agreeing()]);
+    console::form(
+        b"random: 400 loops, % agree\n",
+        [random::agreeing(), 0, 0, 0, 0],
+    );
 }

@@ -14,13 +14,13 @@ fn print(found: Verdict) {
             io::write_all(1, b": legal\n");
         }
         Verdict::Broken(e) => {
-            console::form(b": dependence %\n", &[e]);
+            console::form(b": dependence %\n", [e, 0, 0, 0, 0]);
         }
         Verdict::Conflict(a, b) => {
-            console::form(b": conflict % %\n", &[a, b]);
+            console::form(b": conflict % %\n", [a, b, 0, 0, 0]);
         }
         Verdict::Refused(n, detail) => {
-            console::form(b": refused % at %\n", &[n, detail]);
+            console::form(b": refused % at %\n", [n, detail, 0, 0, 0]);
         }
     }
 }

@@ -145,7 +145,7 @@ fn with_list(t: Tally) -> Tally {
 // How many random lists agree, and how many verdicts there are of each kind.
 fn print(t: Tally) {
     let counts = t.counts;
-    console::form(
+    console::list(
         b"random: 400 lists, % agree: legal %, dependence %, conflict of two %, with itself %, refused %\n",
         &counts,
     );
