@@ -12,12 +12,20 @@ use trial::file::first;
 fn print(found: LowerBounds) {
     match found {
         LowerBounds::Found(resource, recurrence) => {
-            console::form(b": resource % recurrence %\n", &[resource, recurrence]);
+            console::form(
+                b": resource % recurrence %\n",
+                [resource, recurrence, 0, 0, 0],
+            );
         }
         LowerBounds::Refused(number, detail) => {
-            console::form(b": refused % at %\n", &[number, detail]);
+            console::form(b": refused % at %\n", [number, detail, 0, 0, 0]);
         }
     }
+}
+
+// The bounds of the first bytes.
+fn answer(file: &[u8; 2000], len: usize) {
+    print(bounds::bounds(first(file, len)));
 }
 
 // Puts a byte, where the array has the place.
@@ -42,16 +50,16 @@ fn put_bytes(file: &mut [u8; 2000], to: usize, count: usize, line: &[u8], at: us
 
 // A line of the table: its name, and the bounds. One that begins with `#` is a comment.
 fn replay_line(line: &[u8]) {
+    let mut file = [0u8; 2000];
     let mut q = [0usize; 4];
     let at = console::numbers(line, 0, &mut q);
-    let mut file = [0u8; 2000];
     trial::loops::put_loop(&mut file, q[0]);
     let next = put_bytes(&mut file, q[2], q[3], line, at);
     if next < line.len() {
         if line[0] != b'#' {
             let name = next + 1;
             io::write_all(1, &line[name..]);
-            print(bounds::bounds(first(&file, q[1])));
+            answer(&file, q[1]);
         }
     }
 }
@@ -71,5 +79,8 @@ fn main() {
     let input = console::read_all(&mut table);
     let n = input.count;
     replay(&table[..n]);
-    console::form(b"random: 400 loops, % agree\n", &[random::agreeing()]);
+    console::form(
+        b"random: 400 loops, % agree\n",
+        [random::agreeing(), 0, 0, 0, 0],
+    );
 }

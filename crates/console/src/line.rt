@@ -47,8 +47,8 @@ pub fn print(line: &[u8], n: usize) {
 }
 
 // The number at a place of the list, or 0 beyond it.
-fn at_or_zero(numbers: &[usize], i: usize) -> usize {
-    if i < numbers.len() { numbers[i] } else { 0 }
+fn at_or_zero(numbers: &[usize; 5], i: usize) -> usize {
+    if i < 5 { numbers[i] } else { 0 }
 }
 
 // Puts a byte into the line, or the number in place of `%`, as far as there is room; the place after it.
@@ -64,7 +64,7 @@ fn put_byte(line: &mut [u8], at: usize, b: u8, n: usize) -> usize {
 }
 
 // Puts a template into the line, with the next number in place of each `%`; the place after it.
-fn fill(line: &mut [u8], template: &[u8], numbers: &[usize]) -> usize {
+fn fill(line: &mut [u8], template: &[u8], numbers: &[usize; 5]) -> usize {
     let mut at = 0;
     let mut next = 0;
     let mut i = 0;
@@ -78,9 +78,10 @@ fn fill(line: &mut [u8], template: &[u8], numbers: &[usize]) -> usize {
     at
 }
 
-// Writes a template to standard output, with the next number in place of each `%`: up to 512 bytes.
-pub fn form(template: &[u8], numbers: &[usize]) {
+// Writes a template to standard output, up to 512 bytes, with the next of the numbers in place of each `%`. They are five, by value, since that makes a caller's proof short: a template
+// with fewer places leaves the last.
+pub fn form(template: &[u8], numbers: [usize; 5]) {
     let mut line = [0u8; 512];
-    let n = fill(&mut line, template, numbers);
+    let n = fill(&mut line, template, &numbers);
     print(&line, n);
 }

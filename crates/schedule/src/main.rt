@@ -5,7 +5,7 @@ use search::Solution;
 
 // `refused N at D`.
 fn refused(number: usize, detail: usize) {
-    console::form(b"refused % at %\n", &[number, detail]);
+    console::form(b"refused % at %\n", [number, detail, 0, 0, 0]);
 }
 
 // `interval I resource R recurrence B stages S probes P`.
@@ -13,7 +13,7 @@ fn summary(f: Solution) {
     let numbers = [f.interval, f.resource, f.recurrence, f.stages, f.probes];
     console::form(
         b"interval % resource % recurrence % stages % probes %\n",
-        &numbers,
+        numbers,
     );
 }
 
@@ -24,7 +24,7 @@ fn operation(interval: usize, starts: &[u16], op: usize, start: usize) {
     let order = stages::order(interval, starts, op);
     console::form(
         b"op % start % stage % cycle % order %\n",
-        &[op, start, stage, cycle, order],
+        [op, start, stage, cycle, order],
     );
 }
 

@@ -3,24 +3,35 @@
 mod memory;
 
 use search::Searched;
+use search::Solution;
+use trial::loops::put_changed;
 ghost use Prim.Native.Nat.{_≤_};
 
-// `: interval I resource R recurrence B stages S probes P`, `: refused N at D after K` for 10 and 11, or `: refused N at D`.
-fn answered(found: Searched) {
-    match found {
-        Searched::Found(s) => {
-            let numbers = [s.interval, s.resource, s.recurrence, s.stages, s.probes];
-            console::form(
-                b": interval % resource % recurrence % stages % probes %",
-                &numbers,
-            );
-        }
-        Searched::Ended(n, detail, probes) => {
-            console::form(b": refused % at % after %", &[n, detail, probes]);
-        }
-        Searched::Refused(n, detail) => {
-            console::form(b": refused % at %", &[n, detail]);
-        }
+// `: interval I resource R recurrence B stages S probes P`.
+fn found(s: Solution) {
+    let numbers = [s.interval, s.resource, s.recurrence, s.stages, s.probes];
+    console::form(
+        b": interval % resource % recurrence % stages % probes %",
+        numbers,
+    );
+}
+
+// `: refused N at D after K`.
+fn ended(n: usize, detail: usize, probes: usize) {
+    console::form(b": refused % at % after %", [n, detail, probes, 0, 0]);
+}
+
+// `: refused N at D`.
+fn refused(n: usize, detail: usize) {
+    console::form(b": refused % at %", [n, detail, 0, 0, 0]);
+}
+
+// One of these: the second for 10 and 11.
+fn answered(answer: Searched) {
+    match answer {
+        Searched::Found(s) => found(s),
+        Searched::Ended(n, detail, probes) => ended(n, detail, probes),
+        Searched::Refused(n, detail) => refused(n, detail),
     }
 }
 
@@ -31,50 +42,50 @@ fn clamp(x: usize, limit: usize) -> usize
     if x < limit { x } else { limit }
 }
 
-// A search with memory that is lent, and what it leaves there.
-fn searched(
-    file: &[u8],
-    cap: usize,
-    horizon: usize,
-    allowance: usize,
-    list: &mut [u16],
-    rows: &mut [u64],
-) {
-    answered(search::search(file, cap, horizon, allowance, list, rows));
+// The search of the first bytes with the numbers of a case, in memory that is lent.
+fn searched(bytes: &[u8], q: &[usize; 9], list: &mut [u16], rows: &mut [u64]) {
+    let n = clamp(q[1], bytes.len());
+    answered(search::search(&bytes[0..n], q[4], q[5], q[6], list, rows));
+}
+
+// The same, and what it leaves there.
+fn shown(bytes: &[u8], q: &[usize; 9], list: &mut [u16], rows: &mut [u64]) {
+    searched(bytes, q, list, rows);
     memory::show_list(list);
     memory::show_rows(rows);
 }
 
-// The search of a file with the numbers of a case, and as much of a list and a table as it says.
-fn run(file: &[u8], q: &[usize; 9]) {
+// The same, with as much of a list and a table as the case says.
+fn run(bytes: &[u8; 2000], q: &[usize; 9]) {
     let mut list = [65535u16; 66];
     let mut rows = [18446744073709551615u64; 4100];
     let l = clamp(q[7], 66);
     let r = clamp(q[8], 4100);
-    searched(file, q[4], q[5], q[6], &mut list[0..l], &mut rows[0..r]);
+    shown(bytes, q, &mut list[0..l], &mut rows[0..r]);
 }
 
-// The same with the file of the case.
-fn of_file(q: &[usize; 9]) {
-    let mut file = [0u8; 2000];
-    trial::loops::put_loop(&mut file, q[0]);
-    let at = clamp(q[2], 1999);
-    file[at] = (q[3] % 256) as u8;
-    let n = clamp(q[1], 2000);
-    run(&file[0..n], q);
+// Writes what follows a place of a line.
+fn rest(line: &[u8], at: usize) {
+    if at < line.len() {
+        let next = at + 1;
+        io::write_all(1, &line[next..]);
+    }
 }
 
-// A case: `NAME, cap C, horizon H, allowance A, list L, rows R`, and its search.
+// Reads the numbers of a case, and writes `NAME, cap C, horizon H, allowance A, list L, rows R`.
+fn heading(line: &[u8], q: &mut [usize; 9]) {
+    rest(line, console::numbers(line, 0, q));
+    let numbers = [q[4], q[5], q[6], q[7], q[8]];
+    console::form(b", cap %, horizon %, allowance %, list %, rows %", numbers);
+}
+
+// A case, and its search.
 fn case(line: &[u8]) {
     let mut q = [0usize; 9];
-    let at = console::numbers(line, 0, &mut q);
-    if at < line.len() {
-        let name = at + 1;
-        io::write_all(1, &line[name..]);
-    }
-    let numbers = [q[4], q[5], q[6], q[7], q[8]];
-    console::form(b", cap %, horizon %, allowance %, list %, rows %", &numbers);
-    of_file(&q);
+    heading(line, &mut q);
+    let mut bytes = [0u8; 2000];
+    put_changed(&mut bytes, q[0], q[2], (q[3] % 256) as u8);
+    run(&bytes, &q);
     io::write_all(1, b"\n");
 }
 

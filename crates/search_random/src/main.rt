@@ -27,7 +27,7 @@ fn told(agrees: bool, i: usize) -> usize {
     if agrees {
         return 0;
     }
-    console::form(b"loop %: differ\n", &[i]);
+    console::form(b"loop %: differ\n", [i, 0, 0, 0, 0]);
     9
 }
 
@@ -70,7 +70,7 @@ fn main() {
         t = through(i, i + 100, t);
         i += 100;
         let counts = t.counts;
-        console::form(
+        console::list(
             b"% of % agree: found % (% above the bounds), none % (% with no interval to try), spent %, cyclic %, other %\n",
             &counts,
         );

@@ -1,26 +1,16 @@
 // What a line shows: an answer, the placed operations with their starts, how many checkpoints are open, and the table.
 use session::Checked;
+use session::Outcome;
 use session::Reply;
 use session::Session;
+ghost use Prim.Native.Nat.{_≤_};
 
 // What stands in each row of a table before it is lent. No row of a session is this large.
 pub const UNTOUCHED: u64 = 18446744073709551615;
 
-// A text, and a number behind it.
-pub fn number(text: &[u8], n: usize) {
-    value(text, n as u64);
-}
-
-// The same, for a row or a mask.
-fn value(text: &[u8], v: u64) {
-    io::write_all(1, text);
-    io::print_decimal(1, v);
-}
-
 // `: refused N at D`.
 fn refused(n: usize, detail: usize) {
-    number(b": refused ", n);
-    number(b" at ", detail);
+    console::form(b": refused % at %", [n, detail, 0, 0, 0]);
 }
 
 // `: done`, `: displaced M`, `: number C`, or a refusal.
@@ -29,67 +19,65 @@ fn replied(reply: Reply) {
         Reply::Done => {
             io::write_all(1, b": done");
         }
-        Reply::Displaced(mask) => value(b": displaced ", mask),
-        Reply::Numbered(m) => number(b": number ", m),
+        Reply::Displaced(mask) => {
+            console::form(b": displaced %", [mask as usize, 0, 0, 0, 0]);
+        }
+        Reply::Numbered(m) => {
+            console::form(b": number %", [m, 0, 0, 0, 0]);
+        }
         Reply::Refused(n, detail) => refused(n, detail),
     }
 }
 
-// `: fine`, or a refusal.
-fn checked(answer: Checked) {
-    match answer {
-        Checked::Fine => {
-            io::write_all(1, b": fine");
-        }
-        Checked::Refused(n, detail) => refused(n, detail),
+// ` O@S` where the operation is placed; 1 for a placed one.
+fn start(op: usize, at: u16) -> usize
+    ensures { λ r. ⌜ r ≤ 1 ⌝ }
+{
+    if at == 65535 {
+        return 0;
     }
-}
-
-// A start as a number.
-fn wide(start: u16) -> usize {
-    start as usize
+    console::form(b" %@%", [op, at as usize, 0, 0, 0]);
+    1
 }
 
 // `; starts O@S O@S ..` with the placed operations, or `; starts none`.
 fn starts(at: &[u16; 64]) {
     io::write_all(1, b"; starts");
-    let mut none = true;
+    let mut placed = 0;
     let mut op = 0;
     while op < 64 {
-        if at[op] != 65535 {
-            number(b" ", op);
-            number(b"@", wide(at[op]));
-            none = false;
-        }
+        placed += start(op, at[op]);
         op += 1;
     }
-    if none {
+    if placed == 0 {
         io::write_all(1, b" none");
     }
 }
 
-// Prints each row.
-fn each(rows: &[u64]) {
-    let mut i = 0;
-    while i < rows.len() {
-        value(b" ", rows[i]);
-        i += 1;
+// A row: ` V`, or, where only the rows that are not 0 are shown, ` R:V`; 1 where it is shown.
+fn row(sparse: bool, i: usize, v: u64) -> usize
+    ensures { λ r. ⌜ r ≤ 1 ⌝ }
+{
+    if !sparse {
+        console::form(b" %", [v as usize, 0, 0, 0, 0]);
+        return 1;
     }
+    if v == 0 {
+        return 0;
+    }
+    console::form(b" %:%", [i, v as usize, 0, 0, 0]);
+    1
 }
 
-// Prints the rows that are not 0, as ` R:V`, or ` clear`.
-fn filled(rows: &[u64]) {
-    let mut clear = true;
+// Each row up to 8, or those of more that are not 0; ` clear` where none is shown.
+fn each(rows: &[u64]) {
+    let mut shown = 0;
     let mut i = 0;
     while i < rows.len() {
-        if rows[i] != 0 {
-            number(b" ", i);
-            value(b":", rows[i]);
-            clear = false;
-        }
+        shown += row(8 < rows.len(), i, rows[i]);
         i += 1;
     }
-    if clear {
+    if shown == 0 {
         io::write_all(1, b" clear");
     }
 }
@@ -118,15 +106,11 @@ fn beyond(rows: &[u64]) {
     }
 }
 
-// `; rows V V ..` for an interval up to 8, else `; rows R:V ..` with those that are not 0; and the rows beyond.
+// `; rows` with those of the interval, and the rows beyond it.
 fn table(rows: &[u64], interval: usize) {
     io::write_all(1, b"; rows");
     if interval <= rows.len() {
-        if interval <= 8 {
-            each(&rows[0..interval]);
-        } else {
-            filled(&rows[0..interval]);
-        }
+        each(&rows[0..interval]);
         beyond(&rows[interval..]);
     }
 }
@@ -135,29 +119,33 @@ fn table(rows: &[u64], interval: usize) {
 fn state(s: Session, rows: &[u64]) {
     let placed = s.starts;
     starts(&placed.at);
-    number(b"; checkpoints ", s.marks);
+    console::form(b"; checkpoints %", [s.marks, 0, 0, 0, 0]);
     table(rows, s.interval);
     io::write_all(1, b"\n");
 }
 
-// A call's answer, with what it left.
-pub fn outcome(s: Session, rows: &[u64], reply: Reply) {
+// The answer of a call, with what it left.
+pub fn outcome(o: Outcome, rows: &[u64]) {
+    let reply = o.reply;
     replied(reply);
-    state(s, rows);
+    state(o.session, rows);
 }
 
 // The answer of an opening, with what it left.
-pub fn opening(s: Session, rows: &[u64], answer: Checked) {
-    checked(answer);
+pub fn opened(s: Session, rows: &[u64]) {
+    io::write_all(1, b": fine");
     state(s, rows);
 }
 
 // The answer of a refused opening, and whether the table is as it was.
 pub fn shut(rows: &[u64], answer: Checked) {
-    checked(answer);
+    if let Checked::Refused(n, detail) = answer {
+        refused(n, detail);
+    }
+    io::write_all(1, b"; rows");
     if untouched(rows) {
-        io::write_all(1, b"; rows kept\n");
+        io::write_all(1, b" kept\n");
     } else {
-        io::write_all(1, b"; rows changed\n");
+        io::write_all(1, b" changed\n");
     }
 }

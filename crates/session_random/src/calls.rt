@@ -98,18 +98,12 @@ fn mark(open: usize, seed: usize, sense: usize) -> usize {
     }
 }
 
-// A call, from the five states behind a seed. For a state of two an operation that is to be placed gets a start at which it fits.
-pub fn drawn(d: Drawn, b: Book, seed: usize) -> Call {
-    let s = next(seed);
-    let t = next(s);
+// A call that is no rollback, from four states. For a state of two an operation that is to be placed gets a start at which it fits.
+fn plain(d: Drawn, b: Book, kind: usize, t: usize) -> Call {
     let u = next(t);
     let v = next(u);
     let w = next(v);
     let starts = b.starts;
-    let kind = kind(d, &starts, s);
-    if kind == 5 {
-        return call_of(5, mark(b.open, t, u), 0, w);
-    }
     let op = operation(d, &starts, t, u, kind == 2);
     let at = start(d.horizon as usize, v, w);
     if (kind == 0) & (pick(w / 16, 0, 2) == 1) {
@@ -118,10 +112,29 @@ pub fn drawn(d: Drawn, b: Book, seed: usize) -> Call {
     call_of(kind, op, at, w)
 }
 
-// The calls of two turns, by which the session goes back to the newest checkpoint and releases it.
-pub fn back(i: usize, open: usize, seed: usize) -> Call {
+// A random call, from the five states behind a seed.
+fn drawn(d: Drawn, b: Book, seed: usize) -> Call {
+    let s = next(seed);
+    let t = next(s);
+    let starts = b.starts;
+    let kind = kind(d, &starts, s);
+    if kind == 5 {
+        let u = next(t);
+        return call_of(5, mark(b.open, t, u), 0, next(next(u)));
+    }
+    plain(d, b, kind, t)
+}
+
+// The call of turn i: a random one for the first 200; then, while a checkpoint is open, one back to the newest, and one that releases it; else none, which is kind 6.
+pub fn of_turn(d: Drawn, b: Book, seed: usize, i: usize) -> Call {
+    if i < 200 {
+        return drawn(d, b, seed);
+    }
+    if b.open == 0 {
+        return call_of(6, 0, 0, seed);
+    }
     if i % 2 == 0 {
-        call_of(5, open, 0, seed)
+        call_of(5, b.open, 0, seed)
     } else {
         call_of(4, 0, 0, seed)
     }

@@ -66,20 +66,18 @@ fn made(d: Drawn, p: Play, rows: &mut [u64; 8], c: Call) -> Play
     }
 }
 
-// Turn i: a random call for the first 200; then, while a checkpoint is open, a call back to the newest, and one that releases it.
+// The call of turn i, where it has one.
 fn with_turn(d: Drawn, p: Play, rows: &mut [u64; 8], i: usize) -> Play
     requires { ⌜ Valid (p .session) (now rows) ⌝ }
     ensures { λ r. ⌜ Valid (r .session) (now (rows .exit)) ⌝ }
 {
     let book = p.book;
     let tally = p.tally;
-    if i < 200 {
-        return made(d, p, rows, calls::drawn(d, book, tally.seed));
-    }
-    if book.open == 0 {
+    let c = calls::of_turn(d, book, tally.seed, i);
+    if c.kind == 6 {
         return p;
     }
-    made(d, p, rows, calls::back(i, book.open, tally.seed))
+    made(d, p, rows, c)
 }
 
 // All turns of a list, of which the last 32 are for its 16 checkpoints.
@@ -151,9 +149,5 @@ fn main() {
             tally::print(t);
         }
     }
-    let counts = t.counts;
-    console::form(
-        b"% of % calls agree in % lists\n",
-        &[counts[2], counts[1], counts[0]],
-    );
+    tally::print_all(t);
 }

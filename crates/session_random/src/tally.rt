@@ -71,7 +71,7 @@ fn counted(counts: [usize; 20], agrees: bool) -> [usize; 20] {
     if agrees {
         return more(more(counts, 2), 1);
     }
-    console::form(b"call %: differ\n", &[counts[1]]);
+    console::list(b"list %, call %: differ\n", &counts);
     more(counts, 1)
 }
 
@@ -106,8 +106,15 @@ pub fn with_call(t: Tally, c: Call, a: Answer, agrees: bool) -> Tally {
 // `L lists, C calls, A agree: ..`, for the lists so far.
 pub fn print(t: Tally) {
     let counts = t.counts;
-    console::form(
+    console::list(
         b"% lists, % calls, % agree: placed %, forced with none displaced %, with one %, with several %, removed %, checkpoints %, released %, rolled back %, refused by 12:% 13:% 14:% 15:% 16:% 17:% 18:% 19:%, other %\n",
         &counts,
     );
+}
+
+// A last line for all lists.
+pub fn print_all(t: Tally) {
+    let counts = t.counts;
+    let numbers = [counts[2], counts[1], counts[0], 0, 0];
+    console::form(b"% of % calls agree in % lists\n", numbers);
 }

@@ -1,7 +1,9 @@
 -- The worked loops as files, by number: what `loops::put_loop` puts. Assumes nothing.
+use mathlib.Core.Bool.{cond}
 use mathlib.Core.List.{List, [], _∷_, _++_}
 use Prim.Native.Nat.{ℕ, zero, suc, _-_}
-use lib.ListN.{getD, replicate}
+use lib.Dec.{ltb}
+use lib.ListN.{getD, set, replicate}
 use Rattle.model.specs.Cases.{fileWith, fileA, fileB, fileB2, fileC, ring, four}
 
 -- the dependences of i with i + 1 for the n operations i before operation m, each of delay 64 and distance 0
@@ -32,3 +34,7 @@ files =
 -- the file of loop number k; a number that none has stands for no bytes
 unfoldable pub loopFile : ℕ → List ℕ
 loopFile k = getD files k []
+
+-- bytes with the one at a place below 2,000 set
+abbrev pub changed : (at byte : ℕ) → List ℕ → List ℕ
+changed at byte file = cond (ltb at 2000) (set file at byte) file

@@ -3,7 +3,7 @@ ghost use mathlib.Core.Path.{_≡_};
 ghost use Prim.Native.Nat.{_≤_};
 ghost use lib.ListN.{length};
 ghost use lib.Seq.{sets};
-ghost use Rattle.trial.specs.Loops.{loopFile};
+ghost use Rattle.trial.specs.Loops.{loopFile, changed};
 
 // Loop A of docs/FORMAT.md.
 pub const LOOP_A: [u8; 50] =
@@ -138,5 +138,15 @@ pub fn put_loop(file: &mut [u8; 2000], k: usize) -> usize
         13 => put(file, &RING),
         14 => put(file, &MANY),
         _ => 0,
+    }
+}
+
+// The same, and then one byte set, where its place is in the array: a file with a fault, or another file in part.
+pub fn put_changed(file: &mut [u8; 2000], k: usize, at: usize, byte: u8)
+    ensures { λ _. ⌜ now (file .exit) ≡ changed at byte (sets (now (file .entry)) 0 (loopFile k)) ⌝ }
+{
+    put_loop(file, k);
+    if at < 2000 {
+        file[at] = byte;
     }
 }

@@ -14,13 +14,13 @@ fn print(found: Verdict) {
             io::write_all(1, b": legal\n");
         }
         Verdict::Broken(e) => {
-            console::form(b": dependence %\n", &[e]);
+            console::form(b": dependence %\n", [e, 0, 0, 0, 0]);
         }
         Verdict::Conflict(a, b) => {
-            console::form(b": conflict % %\n", &[a, b]);
+            console::form(b": conflict % %\n", [a, b, 0, 0, 0]);
         }
         Verdict::Refused(n, detail) => {
-            console::form(b": refused % at %\n", &[n, detail]);
+            console::form(b": refused % at %\n", [n, detail, 0, 0, 0]);
         }
     }
 }
@@ -30,11 +30,21 @@ fn start(x: usize) -> u16 {
     (x % 65536) as u16
 }
 
+// The verdict on the first k of four starts.
+fn of_list(file: &[u8], interval: usize, starts: [u16; 4], k: usize) -> Verdict {
+    let n = least(k, 4);
+    verifier::verify(file, interval, &starts[0..n])
+}
+
 // The verdict on a file with the interval and the starts of a case.
 fn verified(file: &[u8], q: &[usize; 10]) {
-    let starts = [start(q[6]), start(q[7]), start(q[8]), start(q[9])];
-    let k = least(q[5], 4);
-    print(verifier::verify(file, q[4], &starts[0..k]));
+    let mut starts = [0u16; 4];
+    let mut i = 0;
+    while i < 4 {
+        starts[i] = start(q[6 + i]);
+        i += 1;
+    }
+    print(of_list(file, q[4], starts, q[5]));
 }
 
 // The same with the file of the case.

@@ -109,6 +109,15 @@ fn numbers(v: Verdict) -> [usize; 3] {
     }
 }
 
+// 0, the count of the lists that agree, where two verdicts are the same; else 6, which is none.
+fn agreed(v: &[usize; 3], w: &[usize; 3]) -> usize {
+    if (v[0] == w[0]) & (v[1] == w[1]) & (v[2] == w[2]) {
+        0
+    } else {
+        6
+    }
+}
+
 // One more of a kind.
 fn more(counts: [usize; 6], kind: usize) -> [usize; 6] {
     let mut out = counts;
@@ -127,17 +136,16 @@ fn with_list(t: Tally) -> Tally {
     let w = numbers(seen(d, &starts));
     let before = t.counts;
     let counts = more(before, v[0]);
-    let agrees = (v[0] == w[0]) & (v[1] == w[1]) & (v[2] == w[2]);
     Tally {
         seed: last,
-        counts: more(counts, if agrees { 0 } else { 6 }),
+        counts: more(counts, agreed(&v, &w)),
     }
 }
 
 // How many random lists agree, and how many verdicts there are of each kind.
 fn print(t: Tally) {
     let counts = t.counts;
-    console::form(
+    console::list(
         b"random: 400 lists, % agree: legal %, dependence %, conflict of two %, with itself %, refused %\n",
         &counts,
     );

@@ -1,5 +1,4 @@
 -- `replay` is safe and ends: each turn goes on past the end of its line, and the measure is what is left of the table. Assumes nothing.
-
 use native.Mathlib.Omega.{arith}
 use Prim.Native.Nat.{_-_}
 use lib.ListN.{length}

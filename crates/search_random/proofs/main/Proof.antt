@@ -23,14 +23,14 @@ through-requires c κs = tt
 add-i : tie.Need-add-i Inv-loop μ-loop
 add-i c = omega arith
 
-slice-aggregate-form : tie.Need-slice-aggregate-form Inv-loop μ-loop
-slice-aggregate-form c = search needs
+slice-aggregate-list : tie.Need-slice-aggregate-list Inv-loop μ-loop
+slice-aggregate-list c = search needs
 
-slice-aggregate-form-2 : tie.Need-slice-aggregate-form-2 Inv-loop μ-loop
-slice-aggregate-form-2 c = search needs
+slice-aggregate-list-2 : tie.Need-slice-aggregate-list-2 Inv-loop μ-loop
+slice-aggregate-list-2 c = search needs
 
-form-requires : tie.Need-form-requires Inv-loop μ-loop
-form-requires c κs = tt
+list-requires : tie.Need-list-requires Inv-loop μ-loop
+list-requires c κs = tt
 
 loop-less : tie.Need-loop-less Inv-loop μ-loop
 loop-less c = omega arith
@@ -51,9 +51,9 @@ main-spec =
     add-through
     through-requires
     add-i
-    slice-aggregate-form
-    slice-aggregate-form-2
-    form-requires
+    slice-aggregate-list
+    slice-aggregate-list-2
+    list-requires
     loop-less
     loop-again
     returns)

@@ -5,12 +5,6 @@ use Rattle.session.specs.View.{setupOf, openingOf}
 use Rattle.session_cases.proofs.play.Statement.{statement}
 use Rattle.session_cases.proofs.play.Tie as tie
 
-asked-requires : tie.Need-asked-requires
-asked-requires c κs = search needs
-
-slice-aggregate-open : tie.Need-slice-aggregate-open
-slice-aggregate-open c = search needs
-
 open-requires : tie.Need-open-requires
 open-requires c κs = search needs
 
@@ -20,26 +14,26 @@ enum-told c = search needs
 enum-told-2 : tie.Need-enum-told-2
 enum-told-2 c = search needs
 
-slice-aggregate-shut : tie.Need-slice-aggregate-shut
-slice-aggregate-shut c = search needs
-
 shut-requires : tie.Need-shut-requires
 shut-requires c κs = search needs
+
+same-length : tie.Need-same-length
+same-length c = search needs
 
 returns : tie.Need-returns
 returns c = search needs
 
-slice-aggregate-opening : tie.Need-slice-aggregate-opening
-slice-aggregate-opening c = search needs
+opened-requires : tie.Need-opened-requires
+opened-requires c κs = search needs
 
-opening-requires : tie.Need-opening-requires
-opening-requires c κs = search needs
-
-play-requires : tie.Need-play-requires
-play-requires c κs =
+calls-requires : tie.Need-calls-requires
+calls-requires c κs =
     let d = c .before .before .before .before in
-    let o = d .before .before .before .«open» in
+    let o = d .before .before .before .before .«open» in
     o .ensures .valid (setupOf (o .result .session)) (sym (o .ensures .says) ∙ ap (openingOf (o .result .session)) (d .enum-told .given .1))
+
+same-length-2 : tie.Need-same-length-2
+same-length-2 c = search needs
 
 returns-2 : tie.Need-returns-2
 returns-2 c = search needs
@@ -48,15 +42,13 @@ pub play-spec : {M : Type 1} → statement M
 play-spec =
     tie.close
     (tie.spec
-    asked-requires
-    slice-aggregate-open
     open-requires
     enum-told
     enum-told-2
-    slice-aggregate-shut
     shut-requires
+    same-length
     returns
-    slice-aggregate-opening
-    opening-requires
-    play-requires
+    opened-requires
+    calls-requires
+    same-length-2
     returns-2)

@@ -1,15 +1,14 @@
 -- `main` is safe and ends: its loop counts up, and the measure is what is left. Assumes nothing.
 use Prim.Native.Nat.{_-_}
 use native.Mathlib.Omega.{arith}
-use borrow.Author.Needs.{needs}
 use Rattle.session_random.proofs.main.Statement.{statement}
 use Rattle.session_random.proofs.main.Tie as tie
 
 abbrev Inv-loop : tie.InvT-loop
-Inv-loop t₀ lists₀ t4 t lists = Unit
+Inv-loop t₀ lists₀ t lists = Unit
 
 abbrev μ-loop : tie.MeasureT-loop
-μ-loop t₀ lists₀ t4 t lists = 100 - lists
+μ-loop t₀ lists₀ t lists = 100 - lists
 
 nothing-requires : tie.Need-nothing-requires Inv-loop μ-loop
 nothing-requires c κs = tt
@@ -38,23 +37,8 @@ loop-less-2 c = omega arith
 loop-again-2 : tie.Need-loop-again-2 Inv-loop μ-loop
 loop-again-2 c = tt
 
-slice-aggregate-form : tie.Need-slice-aggregate-form Inv-loop μ-loop
-slice-aggregate-form c = search needs
-
-array-read-t14 : tie.Need-array-read-t14 Inv-loop μ-loop
-array-read-t14 c = omega arith
-
-array-read-t17 : tie.Need-array-read-t17 Inv-loop μ-loop
-array-read-t17 c = omega arith
-
-array-read-t20 : tie.Need-array-read-t20 Inv-loop μ-loop
-array-read-t20 c = omega arith
-
-slice-aggregate-form-2 : tie.Need-slice-aggregate-form-2 Inv-loop μ-loop
-slice-aggregate-form-2 c = search needs
-
-form-requires : tie.Need-form-requires Inv-loop μ-loop
-form-requires c κs = tt
+print-all-requires : tie.Need-print-all-requires Inv-loop μ-loop
+print-all-requires c κs = tt
 
 returns : tie.Need-returns Inv-loop μ-loop
 returns c = tt
@@ -74,10 +58,5 @@ main-spec =
     loop-again
     loop-less-2
     loop-again-2
-    slice-aggregate-form
-    array-read-t14
-    array-read-t17
-    array-read-t20
-    slice-aggregate-form-2
-    form-requires
+    print-all-requires
     returns)

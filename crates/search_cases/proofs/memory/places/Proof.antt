@@ -1,37 +1,30 @@
--- `memory::places` is safe and ends: its loop counts up, and the measure is the places left. Assumes nothing.
-use mathlib.Core.Path.{refl}
+-- `memory::places` is safe and ends: no more places did not change than were passed, and the measure is the places left. Assumes nothing.
 use native.Mathlib.Omega.{arith}
-use Prim.Native.Nat.{_-_}
+use Prim.Native.Nat.{_-_, _≤_}
 use lib.ListN.{length}
 use Rattle.search_cases.proofs.memory.places.Statement.{statement}
 use Rattle.search_cases.proofs.memory.places.Tie as tie
 
 abbrev Inv-loop : tie.InvT-loop
-Inv-loop list i₀ t3 i = Unit
+Inv-loop list kept₀ i₀ kept i = kept ≤ i
 
 abbrev μ-loop : tie.MeasureT-loop
-μ-loop list i₀ t3 i = length list - i
+μ-loop list kept₀ i₀ kept i = length list - i
 
 loop-holds : tie.Need-loop-holds Inv-loop μ-loop
-loop-holds c = tt
+loop-holds c = omega arith
 
-slice-aggregate-form : tie.Need-slice-aggregate-form Inv-loop μ-loop
-slice-aggregate-form c = refl
+mul-show-place : tie.Need-mul-show-place Inv-loop μ-loop
+mul-show-place c = omega arith
 
-mul-wide : tie.Need-mul-wide Inv-loop μ-loop
-mul-wide c = omega arith
+shared-slice-read-show-place : tie.Need-shared-slice-read-show-place Inv-loop μ-loop
+shared-slice-read-show-place c = omega arith
 
-shared-slice-read-wide : tie.Need-shared-slice-read-wide Inv-loop μ-loop
-shared-slice-read-wide c = omega arith
+show-place-requires : tie.Need-show-place-requires Inv-loop μ-loop
+show-place-requires c κs = tt
 
-wide-requires : tie.Need-wide-requires Inv-loop μ-loop
-wide-requires c κs = tt
-
-slice-aggregate-form-2 : tie.Need-slice-aggregate-form-2 Inv-loop μ-loop
-slice-aggregate-form-2 c = refl
-
-form-requires : tie.Need-form-requires Inv-loop μ-loop
-form-requires c κs = tt
+add-kept : tie.Need-add-kept Inv-loop μ-loop
+add-kept c = omega arith
 
 add-i : tie.Need-add-i Inv-loop μ-loop
 add-i c = omega arith
@@ -40,7 +33,7 @@ loop-less : tie.Need-loop-less Inv-loop μ-loop
 loop-less c = omega arith
 
 loop-again : tie.Need-loop-again Inv-loop μ-loop
-loop-again c = tt
+loop-again c = omega arith
 
 returns : tie.Need-returns Inv-loop μ-loop
 returns c = tt
@@ -52,12 +45,10 @@ places-spec =
     Inv-loop
     μ-loop
     loop-holds
-    slice-aggregate-form
-    mul-wide
-    shared-slice-read-wide
-    wide-requires
-    slice-aggregate-form-2
-    form-requires
+    mul-show-place
+    shared-slice-read-show-place
+    show-place-requires
+    add-kept
     add-i
     loop-less
     loop-again

@@ -1,42 +1,52 @@
--- `each` is safe and ends: its loop counts up, and the measure is the rows left. Assumes nothing.
-use Prim.Native.Nat.{_-_}
+-- `show::each` is safe and ends: no more rows are shown than were passed, and the measure is the rows left. Assumes nothing.
+use mathlib.Core.Path.{refl}
+use native.Mathlib.Omega.{arith}
+use Prim.Native.Nat.{_-_, _≤_}
 use lib.ListN.{length}
-use borrow.Author.Needs.{needs}
 use Rattle.session_cases.proofs.show.each.Statement.{statement}
 use Rattle.session_cases.proofs.show.each.Tie as tie
 
 abbrev Inv-loop : tie.InvT-loop
-Inv-loop rows i₀ t3 i = Unit
+Inv-loop rows shown₀ i₀ t4 shown i = shown ≤ i
 
 abbrev μ-loop : tie.MeasureT-loop
-μ-loop rows i₀ t3 i = length rows - i
+μ-loop rows shown₀ i₀ t4 shown i = length rows - i
 
 loop-holds : tie.Need-loop-holds Inv-loop μ-loop
-loop-holds c = search needs
+loop-holds c = omega arith
 
-slice-aggregate-value : tie.Need-slice-aggregate-value Inv-loop μ-loop
-slice-aggregate-value c = search needs
+mul-row : tie.Need-mul-row Inv-loop μ-loop
+mul-row c = omega arith
 
-mul-value : tie.Need-mul-value Inv-loop μ-loop
-mul-value c = search needs
+shared-slice-read-row : tie.Need-shared-slice-read-row Inv-loop μ-loop
+shared-slice-read-row c = omega arith
 
-shared-slice-read-value : tie.Need-shared-slice-read-value Inv-loop μ-loop
-shared-slice-read-value c = search needs
+row-requires : tie.Need-row-requires Inv-loop μ-loop
+row-requires c κs = tt
 
-value-requires : tie.Need-value-requires Inv-loop μ-loop
-value-requires c κs = search needs
+add-shown : tie.Need-add-shown Inv-loop μ-loop
+add-shown c = omega arith
 
 add-i : tie.Need-add-i Inv-loop μ-loop
-add-i c = search needs
+add-i c = omega arith
 
 loop-less : tie.Need-loop-less Inv-loop μ-loop
-loop-less c = search needs
+loop-less c = omega arith
 
 loop-again : tie.Need-loop-again Inv-loop μ-loop
-loop-again c = search needs
+loop-again c = omega arith
+
+slice-aggregate-write-all : tie.Need-slice-aggregate-write-all Inv-loop μ-loop
+slice-aggregate-write-all c = refl
+
+write-all-requires : tie.Need-write-all-requires Inv-loop μ-loop
+write-all-requires c κs = tt
 
 returns : tie.Need-returns Inv-loop μ-loop
-returns c = search needs
+returns c = tt
+
+returns-2 : tie.Need-returns-2 Inv-loop μ-loop
+returns-2 c = tt
 
 pub each-spec : {M : Type 1} → statement M
 each-spec =
@@ -45,11 +55,14 @@ each-spec =
     Inv-loop
     μ-loop
     loop-holds
-    slice-aggregate-value
-    mul-value
-    shared-slice-read-value
-    value-requires
+    mul-row
+    shared-slice-read-row
+    row-requires
+    add-shown
     add-i
     loop-less
     loop-again
-    returns)
+    slice-aggregate-write-all
+    write-all-requires
+    returns
+    returns-2)

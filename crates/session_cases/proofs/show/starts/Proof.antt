@@ -1,71 +1,57 @@
--- `starts` is safe and ends: its loop counts up, and the measure is the operations left. Assumes nothing.
-use Prim.Native.Nat.{_-_}
-use borrow.Author.Needs.{needs}
+-- `show::starts` is safe and ends: no more operations are placed than were passed, and the measure is the operations left. Assumes nothing.
+use mathlib.Core.Path.{refl}
+use native.Mathlib.Omega.{arith}
+use Prim.Native.Nat.{_-_, _≤_}
 use Rattle.session_cases.proofs.show.starts.Statement.{statement}
 use Rattle.session_cases.proofs.show.starts.Tie as tie
 
 abbrev Inv-loop : tie.InvT-loop
-Inv-loop at none₀ op₀ t5 t6 t7 none op = Unit
+Inv-loop at placed₀ op₀ t5 placed op = placed ≤ op
 
 abbrev μ-loop : tie.MeasureT-loop
-μ-loop at none₀ op₀ t5 t6 t7 none op = 64 - op
+μ-loop at placed₀ op₀ t5 placed op = 64 - op
 
 slice-aggregate-write-all : tie.Need-slice-aggregate-write-all Inv-loop μ-loop
-slice-aggregate-write-all c = search needs
+slice-aggregate-write-all c = refl
 
 write-all-requires : tie.Need-write-all-requires Inv-loop μ-loop
-write-all-requires c κs = search needs
+write-all-requires c κs = tt
 
 loop-holds : tie.Need-loop-holds Inv-loop μ-loop
-loop-holds c = search needs
+loop-holds c = omega arith
 
-mul-if1 : tie.Need-mul-if1 Inv-loop μ-loop
-mul-if1 c = search needs
+mul-start : tie.Need-mul-start Inv-loop μ-loop
+mul-start c = omega arith
 
-element-copy-out-if1 : tie.Need-element-copy-out-if1 Inv-loop μ-loop
-element-copy-out-if1 c = search needs
+element-copy-out-start : tie.Need-element-copy-out-start Inv-loop μ-loop
+element-copy-out-start c = omega arith
 
-slice-aggregate-number : tie.Need-slice-aggregate-number Inv-loop μ-loop
-slice-aggregate-number c = search needs
+start-requires : tie.Need-start-requires Inv-loop μ-loop
+start-requires c κs = tt
 
-number-requires : tie.Need-number-requires Inv-loop μ-loop
-number-requires c κs = search needs
-
-slice-aggregate-number-2 : tie.Need-slice-aggregate-number-2 Inv-loop μ-loop
-slice-aggregate-number-2 c = search needs
-
-mul-wide : tie.Need-mul-wide Inv-loop μ-loop
-mul-wide c = search needs
-
-element-copy-out-wide : tie.Need-element-copy-out-wide Inv-loop μ-loop
-element-copy-out-wide c = search needs
-
-wide-requires : tie.Need-wide-requires Inv-loop μ-loop
-wide-requires c κs = search needs
-
-number-requires-2 : tie.Need-number-requires-2 Inv-loop μ-loop
-number-requires-2 c κs = search needs
+add-placed : tie.Need-add-placed Inv-loop μ-loop
+add-placed c = omega arith
 
 add-op : tie.Need-add-op Inv-loop μ-loop
-add-op c = search needs
+add-op c = omega arith
 
 loop-less : tie.Need-loop-less Inv-loop μ-loop
-loop-less c = search needs
+loop-less c = omega arith
 
 loop-again : tie.Need-loop-again Inv-loop μ-loop
-loop-again c = search needs
+loop-again c = omega arith
 
 slice-aggregate-write-all-2 : tie.Need-slice-aggregate-write-all-2 Inv-loop μ-loop
-slice-aggregate-write-all-2 c = search needs
+slice-aggregate-write-all-2 c = refl
 
 write-all-requires-2 : tie.Need-write-all-requires-2 Inv-loop μ-loop
-write-all-requires-2 c κs = search needs
+write-all-requires-2 c κs = tt
 
 returns : tie.Need-returns Inv-loop μ-loop
-returns c = search needs
+returns c = tt
 
 returns-2 : tie.Need-returns-2 Inv-loop μ-loop
-returns-2 c = search needs
+returns-2 c = tt
 
 pub starts-spec : {M : Type 1} → statement M
 starts-spec =
@@ -76,15 +62,10 @@ starts-spec =
     slice-aggregate-write-all
     write-all-requires
     loop-holds
-    mul-if1
-    element-copy-out-if1
-    slice-aggregate-number
-    number-requires
-    slice-aggregate-number-2
-    mul-wide
-    element-copy-out-wide
-    wide-requires
-    number-requires-2
+    mul-start
+    element-copy-out-start
+    start-requires
+    add-placed
     add-op
     loop-less
     loop-again

@@ -1,16 +1,15 @@
--- `all` is safe and ends: its loop counts up, and the measure is the rows left. Assumes nothing.
-
+-- `memory::pass` is safe and ends: its loop counts up, and the measure is the rows left. Assumes nothing.
 use native.Mathlib.Omega.{arith}
 use Prim.Native.Nat.{_-_}
 use lib.ListN.{length}
-use Rattle.search_cases.proofs.memory.all.Statement.{statement}
-use Rattle.search_cases.proofs.memory.all.Tie as tie
+use Rattle.search_cases.proofs.memory.pass.Statement.{statement}
+use Rattle.search_cases.proofs.memory.pass.Tie as tie
 
 abbrev Inv-loop : tie.InvT-loop
-Inv-loop rows v i₀ i = Unit
+Inv-loop rows from v i₀ i = Unit
 
 abbrev μ-loop : tie.MeasureT-loop
-μ-loop rows v i₀ i = length rows - i
+μ-loop rows from v i₀ i = length rows - i
 
 loop-holds : tie.Need-loop-holds Inv-loop μ-loop
 loop-holds c = tt
@@ -36,8 +35,8 @@ loop-again c = tt
 returns-2 : tie.Need-returns-2 Inv-loop μ-loop
 returns-2 c = tt
 
-pub all-spec : {M : Type 1} → statement M
-all-spec =
+pub pass-spec : {M : Type 1} → statement M
+pass-spec =
     tie.close
     (tie.spec
     Inv-loop
