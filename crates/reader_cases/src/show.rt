@@ -1,6 +1,5 @@
 // What is printed of a file.
 use loop_file::Reading;
-use loop_file::access;
 ghost use Prim.Native.Nat.{_<_};
 ghost use lib.ListN.{length};
 ghost use Rattle.model.specs.Loop.{size, allUses};
@@ -64,9 +63,9 @@ fn operation(file: &[u8], o: usize)
     requires { ⌜ Accepted (now file) × (o < size (loopOf (now file))) ⌝ }
 {
     number(b"op ", o);
-    number(b" latency ", access::latency(file, o));
-    number(b" uses ", access::use_count(file, o));
-    number(b" first ", access::first_use(file, o));
+    number(b" latency ", loop_access::latency(file, o));
+    number(b" uses ", loop_access::use_count(file, o));
+    number(b" first ", loop_access::first_use(file, o));
     end();
 }
 
@@ -74,7 +73,7 @@ fn operation(file: &[u8], o: usize)
 fn operations(file: &[u8])
     requires { ⌜ Accepted (now file) ⌝ }
 {
-    let n = access::op_count(file);
+    let n = loop_access::op_count(file);
     let mut o = 0;
     while o < n {
         operation(file, o);
@@ -87,9 +86,9 @@ fn one_use(file: &[u8], u: usize)
     requires { ⌜ Accepted (now file) × (u < length (allUses (loopOf (now file)))) ⌝ }
 {
     number(b"use ", u);
-    number(b" slot ", access::slot(file, u));
-    number(b" offset ", access::offset(file, u));
-    number(b" duration ", access::duration(file, u));
+    number(b" slot ", loop_access::slot(file, u));
+    number(b" offset ", loop_access::offset(file, u));
+    number(b" duration ", loop_access::duration(file, u));
     end();
 }
 
@@ -97,7 +96,7 @@ fn one_use(file: &[u8], u: usize)
 fn uses(file: &[u8])
     requires { ⌜ Accepted (now file) ⌝ }
 {
-    let n = access::use_total(file);
+    let n = loop_access::use_total(file);
     let mut u = 0;
     while u < n {
         one_use(file, u);
@@ -110,10 +109,10 @@ fn dependence(file: &[u8], e: usize)
     requires { ⌜ Accepted (now file) × (e < length (loopOf (now file) .deps)) ⌝ }
 {
     number(b"dep ", e);
-    number(b" from ", access::source(file, e));
-    number(b" to ", access::target(file, e));
-    signed(b" delay ", access::delay(file, e));
-    number(b" distance ", access::distance(file, e));
+    number(b" from ", loop_access::source(file, e));
+    number(b" to ", loop_access::target(file, e));
+    signed(b" delay ", loop_access::delay(file, e));
+    number(b" distance ", loop_access::distance(file, e));
     end();
 }
 
@@ -121,7 +120,7 @@ fn dependence(file: &[u8], e: usize)
 fn dependences(file: &[u8])
     requires { ⌜ Accepted (now file) ⌝ }
 {
-    let n = access::dep_count(file);
+    let n = loop_access::dep_count(file);
     let mut e = 0;
     while e < n {
         dependence(file, e);
