@@ -188,5 +188,9 @@ fn main() {
     let mut table = [0u8; 16384];
     let input = console::read_all(&mut table);
     let n = input.count;
-    replay(&table[..n]);
+    if input.whole {
+        replay(&table[..n]);
+    } else {
+        io::write_all(1, b"cannot read\n");
+    }
 }
