@@ -43,20 +43,20 @@ fn clamp(x: usize, limit: usize) -> usize
 }
 
 // The search of the first bytes with the numbers of a case, in memory that is lent.
-fn searched(bytes: &[u8], q: &[usize; 9], list: &mut [u16], rows: &mut [u64]) {
+fn searched(bytes: &[u8], q: [usize; 9], list: &mut [u16], rows: &mut [u64]) {
     let n = clamp(q[1], bytes.len());
     answered(search::search(&bytes[0..n], q[4], q[5], q[6], list, rows));
 }
 
 // The same, and what it leaves there.
-fn shown(bytes: &[u8], q: &[usize; 9], list: &mut [u16], rows: &mut [u64]) {
+fn shown(bytes: &[u8], q: [usize; 9], list: &mut [u16], rows: &mut [u64]) {
     searched(bytes, q, list, rows);
     memory::show_list(list);
     memory::show_rows(rows);
 }
 
 // The same, with as much of a list and a table as the case says.
-fn run(bytes: &[u8; 2000], q: &[usize; 9]) {
+fn run(bytes: &[u8; 2000], q: [usize; 9]) {
     let mut list = [65535u16; 66];
     let mut rows = [18446744073709551615u64; 4100];
     let l = clamp(q[7], 66);
@@ -73,19 +73,20 @@ fn rest(line: &[u8], at: usize) {
 }
 
 // Reads the numbers of a case, and writes `NAME, cap C, horizon H, allowance A, list L, rows R`.
-fn heading(line: &[u8], q: &mut [usize; 9]) {
-    rest(line, console::numbers(line, 0, q));
+fn heading(line: &[u8]) -> [usize; 9] {
+    let mut q = [0usize; 9];
+    rest(line, console::numbers(line, 0, &mut q));
     let numbers = [q[4], q[5], q[6], q[7], q[8]];
     console::form(b", cap %, horizon %, allowance %, list %, rows %", numbers);
+    q
 }
 
 // A case, and its search.
 fn case(line: &[u8]) {
-    let mut q = [0usize; 9];
-    heading(line, &mut q);
+    let q = heading(line);
     let mut bytes = [0u8; 2000];
     put_changed(&mut bytes, q[0], q[2], (q[3] % 256) as u8);
-    run(&bytes, &q);
+    run(&bytes, q);
     io::write_all(1, b"\n");
 }
 
@@ -112,5 +113,9 @@ fn main() {
     let mut table = [0u8; 16384];
     let input = console::read_all(&mut table);
     let n = input.count;
-    replay(&table[..n]);
+    if input.whole {
+        replay(&table[..n]);
+    } else {
+        io::write_all(1, b"cannot read\n");
+    }
 }

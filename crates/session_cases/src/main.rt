@@ -112,21 +112,27 @@ fn clamp(x: usize, limit: usize) -> usize
     if x < limit { x } else { limit }
 }
 
-// Opens a session of a file, in rows that are lent, and makes the calls of the table that follows.
-fn play(file: &[u8], interval: usize, horizon: usize, table: &[u8], rows: &mut [u64]) {
-    let o = session::open(file, interval, horizon, rows);
-    let answer = o.answer;
-    let Checked::Fine = answer else {
-        show::shut(rows, answer);
-        return;
-    };
-    let s = o.session;
-    show::opened(s, rows);
+// The line of an opening that is fine, and the calls of the table that follows.
+fn begun(table: &[u8], s: Session, rows: &mut [u64])
+    requires { ⌜ Valid s (now rows) ⌝ }
+{
+    io::write_all(1, b": fine");
+    show::state(s, rows);
     calls(table, s, rows);
 }
 
+// Opens a session of a file, in rows that are lent.
+fn play(file: &[u8], interval: usize, horizon: usize, table: &[u8], rows: &mut [u64]) {
+    let o = session::open(file, interval, horizon, rows);
+    let answer = o.answer;
+    match answer {
+        Checked::Fine => begun(table, o.session, rows),
+        Checked::Refused(n, detail) => show::shut(rows, n, detail),
+    }
+}
+
 // The same, for the first of these bytes and with as many rows as the opening says.
-fn lent(bytes: &[u8], q: &[usize; 8], table: &[u8]) {
+fn lent(bytes: &[u8], q: [usize; 8], table: &[u8]) {
     let mut rows = [UNTOUCHED; 4100];
     let r = clamp(q[7], 4100);
     let n = clamp(q[2], bytes.len());
@@ -134,7 +140,7 @@ fn lent(bytes: &[u8], q: &[usize; 8], table: &[u8]) {
 }
 
 // The same, of an array.
-fn of_array(bytes: &[u8; 2000], q: &[usize; 8], table: &[u8]) {
+fn of_array(bytes: &[u8; 2000], q: [usize; 8], table: &[u8]) {
     lent(bytes, q, table);
 }
 
@@ -147,21 +153,22 @@ fn rest(line: &[u8], at: usize) {
 }
 
 // Reads the numbers of an opening, and writes `NAME, interval I, horizon H, table T`.
-fn heading(line: &[u8], q: &mut [usize; 8]) {
-    rest(line, console::numbers(line, 0, q));
+fn heading(line: &[u8]) -> [usize; 8] {
+    let mut q = [0usize; 8];
+    rest(line, console::numbers(line, 0, &mut q));
     console::form(
         b", interval %, horizon %, table %",
         [q[5], q[6], q[7], 0, 0],
     );
+    q
 }
 
 // An opening and its calls.
 fn scene(line: &[u8], table: &[u8]) {
-    let mut q = [0usize; 8];
-    heading(line, &mut q);
+    let q = heading(line);
     let mut bytes = [0u8; 2000];
     put_changed(&mut bytes, q[1], q[3], (q[4] % 256) as u8);
-    of_array(&bytes, &q, table);
+    of_array(&bytes, q, table);
 }
 
 // The openings of the table, each with what follows its line.
@@ -181,5 +188,9 @@ fn main() {
     let mut table = [0u8; 16384];
     let input = console::read_all(&mut table);
     let n = input.count;
-    replay(&table[..n]);
+    if input.whole {
+        replay(&table[..n]);
+    } else {
+        io::write_all(1, b"cannot read\n");
+    }
 }

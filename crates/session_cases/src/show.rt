@@ -1,5 +1,4 @@
 // What a line shows: an answer, the placed operations with their starts, how many checkpoints are open, and the table.
-use session::Checked;
 use session::Outcome;
 use session::Reply;
 use session::Session;
@@ -116,7 +115,7 @@ fn table(rows: &[u64], interval: usize) {
 }
 
 // The session and its table, to the end of the line.
-fn state(s: Session, rows: &[u64]) {
+pub fn state(s: Session, rows: &[u64]) {
     let placed = s.starts;
     starts(&placed.at);
     console::form(b"; checkpoints %", [s.marks, 0, 0, 0, 0]);
@@ -131,21 +130,12 @@ pub fn outcome(o: Outcome, rows: &[u64]) {
     state(o.session, rows);
 }
 
-// The answer of an opening, with what it left.
-pub fn opened(s: Session, rows: &[u64]) {
-    io::write_all(1, b": fine");
-    state(s, rows);
-}
-
 // The answer of a refused opening, and whether the table is as it was.
-pub fn shut(rows: &[u64], answer: Checked) {
-    if let Checked::Refused(n, detail) = answer {
-        refused(n, detail);
-    }
-    io::write_all(1, b"; rows");
+pub fn shut(rows: &[u64], n: usize, detail: usize) {
+    refused(n, detail);
     if untouched(rows) {
-        io::write_all(1, b" kept\n");
+        io::write_all(1, b"; rows kept\n");
     } else {
-        io::write_all(1, b" changed\n");
+        io::write_all(1, b"; rows changed\n");
     }
 }

@@ -1,10 +1,9 @@
 -- `calls` is safe and ends: the session and the rows stay those that calls take, and the measure is what is left of the table. Assumes nothing.
 use native.Mathlib.Omega.{arith}
-use mathlib.Core.Path.{_≡_}
+use mathlib.Core.Path.{_≡_, refl}
 use Prim.Native.Nat.{_-_}
 use lib.ListN.{length}
 use Rattle.session.specs.View.{Valid}
-use borrow.Author.Needs.{needs}
 use Rattle.session_cases.proofs.calls.Statement.{statement}
 use Rattle.session_cases.proofs.calls.Tie as tie
 
@@ -15,7 +14,7 @@ abbrev μ-loop : tie.MeasureT-loop
 μ-loop table rows₀ t₀ at₀ rows t at = length table - at
 
 loop-holds : tie.Need-loop-holds Inv-loop μ-loop
-loop-holds c = search needs
+loop-holds c = (c .before .before .pre, refl)
 
 find-requires : tie.Need-find-requires Inv-loop μ-loop
 find-requires c κs = omega arith
@@ -39,7 +38,7 @@ returns : tie.Need-returns Inv-loop μ-loop
 returns c = tt
 
 made-requires : tie.Need-made-requires Inv-loop μ-loop
-made-requires c κs = search needs
+made-requires c κs = c .before .before .before .before .before .before .before .loop .inv .0
 
 add-at : tie.Need-add-at Inv-loop μ-loop
 add-at c = omega arith
@@ -48,7 +47,7 @@ loop-less : tie.Need-loop-less Inv-loop μ-loop
 loop-less c = omega arith
 
 loop-again : tie.Need-loop-again Inv-loop μ-loop
-loop-again c = search needs
+loop-again c = (c .before .before .made .ensures, omega arith)
 
 same-length-2 : tie.Need-same-length-2 Inv-loop μ-loop
 same-length-2 c = omega arith
