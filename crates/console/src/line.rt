@@ -46,9 +46,17 @@ pub fn print(line: &[u8], n: usize) {
     }
 }
 
+// Writes what stands behind the byte at a place of a text to standard output: in a line of a table, the name behind its numbers.
+pub fn rest(text: &[u8], at: usize) {
+    if at < text.len() {
+        let next = at + 1;
+        io::write_all(1, &text[next..]);
+    }
+}
+
 // The number at a place of the list, or 0 beyond it.
-fn at_or_zero(numbers: &[usize; 5], i: usize) -> usize {
-    if i < 5 { numbers[i] } else { 0 }
+fn at_or_zero(numbers: &[usize], i: usize) -> usize {
+    if i < numbers.len() { numbers[i] } else { 0 }
 }
 
 // Puts a byte into the line, or the number in place of `%`, as far as there is room; the place after it.
@@ -64,7 +72,7 @@ fn put_byte(line: &mut [u8], at: usize, b: u8, n: usize) -> usize {
 }
 
 // Puts a template into the line, with the next number in place of each `%`; the place after it.
-fn fill(line: &mut [u8], template: &[u8], numbers: &[usize; 5]) -> usize {
+fn fill(line: &mut [u8], template: &[u8], numbers: &[usize]) -> usize {
     let mut at = 0;
     let mut next = 0;
     let mut i = 0;
@@ -78,10 +86,14 @@ fn fill(line: &mut [u8], template: &[u8], numbers: &[usize; 5]) -> usize {
     at
 }
 
-// Writes a template to standard output, up to 512 bytes, with the next of the numbers in place of each `%`. They are five, by value, since that makes a caller's proof short: a template
-// with fewer places leaves the last.
-pub fn form(template: &[u8], numbers: [usize; 5]) {
-    let mut line = [0u8; 512];
-    let n = fill(&mut line, template, &numbers);
+// Writes a template to standard output, up to 1,024 bytes, with the next number of the list in place of each `%`, and 0 where the list is over.
+pub fn list(template: &[u8], numbers: &[usize]) {
+    let mut line = [0u8; 1024];
+    let n = fill(&mut line, template, numbers);
     print(&line, n);
+}
+
+// The same with five numbers by value, which makes a caller's proof short. A template with fewer places leaves the last.
+pub fn form(template: &[u8], numbers: [usize; 5]) {
+    list(template, &numbers);
 }

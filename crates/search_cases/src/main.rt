@@ -4,8 +4,8 @@ mod memory;
 
 use search::Searched;
 use search::Solution;
+use trial::drawn::least;
 use trial::loops::put_changed;
-ghost use Prim.Native.Nat.{_≤_};
 
 // `: interval I resource R recurrence B stages S probes P`.
 fn found(s: Solution) {
@@ -35,16 +35,9 @@ fn answered(answer: Searched) {
     }
 }
 
-// The smaller.
-fn clamp(x: usize, limit: usize) -> usize
-    ensures { λ r. ⌜ r ≤ limit ⌝ }
-{
-    if x < limit { x } else { limit }
-}
-
 // The search of the first bytes with the numbers of a case, in memory that is lent.
 fn searched(bytes: &[u8], q: [usize; 9], list: &mut [u16], rows: &mut [u64]) {
-    let n = clamp(q[1], bytes.len());
+    let n = least(q[1], bytes.len());
     answered(search::search(&bytes[0..n], q[4], q[5], q[6], list, rows));
 }
 
@@ -59,23 +52,15 @@ fn shown(bytes: &[u8], q: [usize; 9], list: &mut [u16], rows: &mut [u64]) {
 fn run(bytes: &[u8; 2000], q: [usize; 9]) {
     let mut list = [65535u16; 66];
     let mut rows = [18446744073709551615u64; 4100];
-    let l = clamp(q[7], 66);
-    let r = clamp(q[8], 4100);
+    let l = least(q[7], 66);
+    let r = least(q[8], 4100);
     shown(bytes, q, &mut list[0..l], &mut rows[0..r]);
-}
-
-// Writes what follows a place of a line.
-fn rest(line: &[u8], at: usize) {
-    if at < line.len() {
-        let next = at + 1;
-        io::write_all(1, &line[next..]);
-    }
 }
 
 // Reads the numbers of a case, and writes `NAME, cap C, horizon H, allowance A, list L, rows R`.
 fn heading(line: &[u8]) -> [usize; 9] {
     let mut q = [0usize; 9];
-    rest(line, console::numbers(line, 0, &mut q));
+    console::rest(line, console::numbers(line, 0, &mut q));
     let numbers = [q[4], q[5], q[6], q[7], q[8]];
     console::form(b", cap %, horizon %, allowance %, list %, rows %", numbers);
     q

@@ -6,8 +6,8 @@ use session::Checked;
 use session::Outcome;
 use session::Session;
 use show::UNTOUCHED;
+use trial::drawn::least;
 use trial::loops::put_changed;
-ghost use Prim.Native.Nat.{_≤_};
 ghost use Rattle.session.specs.View.{Valid};
 
 // A line of the table, as far as it is a call: its kind, 0 for an opening, and two numbers. Any kind beyond 6 is none, a comment for instance.
@@ -105,13 +105,6 @@ fn calls(table: &[u8], s: Session, rows: &mut [u64])
     }
 }
 
-// The smaller.
-fn clamp(x: usize, limit: usize) -> usize
-    ensures { λ r. ⌜ r ≤ limit ⌝ }
-{
-    if x < limit { x } else { limit }
-}
-
 // The line of an opening that is fine, and the calls of the table that follows.
 fn begun(table: &[u8], s: Session, rows: &mut [u64])
     requires { ⌜ Valid s (now rows) ⌝ }
@@ -134,8 +127,8 @@ fn play(file: &[u8], interval: usize, horizon: usize, table: &[u8], rows: &mut [
 // The same, for the first of these bytes and with as many rows as the opening says.
 fn lent(bytes: &[u8], q: [usize; 8], table: &[u8]) {
     let mut rows = [UNTOUCHED; 4100];
-    let r = clamp(q[7], 4100);
-    let n = clamp(q[2], bytes.len());
+    let r = least(q[7], 4100);
+    let n = least(q[2], bytes.len());
     play(&bytes[0..n], q[5], q[6], table, &mut rows[0..r]);
 }
 
@@ -144,18 +137,10 @@ fn of_array(bytes: &[u8; 2000], q: [usize; 8], table: &[u8]) {
     lent(bytes, q, table);
 }
 
-// Writes what follows a place of a line.
-fn rest(line: &[u8], at: usize) {
-    if at < line.len() {
-        let next = at + 1;
-        io::write_all(1, &line[next..]);
-    }
-}
-
 // Reads the numbers of an opening, and writes `NAME, interval I, horizon H, table T`.
 fn heading(line: &[u8]) -> [usize; 8] {
     let mut q = [0usize; 8];
-    rest(line, console::numbers(line, 0, &mut q));
+    console::rest(line, console::numbers(line, 0, &mut q));
     console::form(
         b", interval %, horizon %, table %",
         [q[5], q[6], q[7], 0, 0],
