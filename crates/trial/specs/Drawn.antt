@@ -44,6 +44,42 @@ holdsAt d e s t interval =
 unfoldable pub holdsIn : Drawn → ℕ → List ℕ → ℕ → Bool
 holdsIn d e starts interval = holdsAt d e (startOf starts (fieldOf d e 0)) (startOf starts (fieldOf d e 1)) interval
 
+-- a loop of these sizes with latencies of 1, no uses, and dependences of zeros
+unfoldable pub blankOf : (seed n m interval horizon : ℕ) → Drawn
+blankOf seed n m interval horizon =
+    record {
+      seed = seed;
+      n = n;
+      m = m;
+      interval = interval % 65536;
+      horizon = horizon % 65536;
+      latencies = replicate 6 1;
+      uses = replicate 18 0;
+      deps = replicate 24 0;
+    }
+
+-- the bytes of 6 dependences with others, each modulo 256, for one of them
+unfoldable pub depSet : List ℕ → (e from to delay distance : ℕ) → List ℕ
+depSet deps e from to delay distance =
+    cond
+    (ltb e 6)
+    (set (set (set (set deps (4 * e) (from % 256)) (4 * e + 1) (to % 256)) (4 * e + 2) (delay % 256)) (4 * e + 3) (distance % 256))
+    deps
+
+-- a loop with another dependence e, where e is below 6
+unfoldable pub withDep : Drawn → (e from to delay distance : ℕ) → Drawn
+withDep d e from to delay distance =
+    record {
+      seed = d .seed;
+      n = d .n;
+      m = d .m;
+      interval = d .interval;
+      horizon = d .horizon;
+      latencies = d .latencies;
+      uses = d .uses;
+      deps = depSet (d .deps) e from to delay distance;
+    }
+
 -- two loops of the same sizes, tried with the same interval and horizon
 pub record SameSizes (d e : Drawn) : Type 0 where
   pub ops : e .n ≡ d .n

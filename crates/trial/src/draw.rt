@@ -6,11 +6,11 @@ use crate::drawn::with_dep;
 use crate::random::next;
 use crate::random::pick;
 ghost use mathlib.Core.Path.{_≡_};
-ghost use Rattle.trial.specs.Drawn.{SameSizes};
+ghost use Rattle.trial.specs.Drawn.{SameSizes, blankOf};
 
 // A loop of these sizes, to be tried with this interval and horizon: latencies of 1, no uses, and dependences that are still to be drawn.
 pub fn blank(seed: usize, n: usize, m: usize, interval: usize, horizon: usize) -> Drawn
-    ensures { λ r. ⌜ (r .n ≡ n) × (r .m ≡ m) ⌝ }
+    ensures { λ r. ⌜ r ≡ blankOf seed n m interval horizon ⌝ }
 {
     Drawn {
         seed: seed,

@@ -1,7 +1,7 @@
 // A small loop as it was drawn, and no file.
 ghost use mathlib.Core.Path.{_≡_};
 ghost use Prim.Native.Nat.{_<_, _≤_, _%_, min};
-ghost use Rattle.trial.specs.Drawn.{durationOf, fieldOf, latencyOf, lagOf, startOf, setAt, onlyOf, holdsIn, SameSizes};
+ghost use Rattle.trial.specs.Drawn.{durationOf, fieldOf, latencyOf, lagOf, startOf, setAt, onlyOf, holdsIn, withDep, SameSizes};
 
 // n operations, up to 6, and m dependences, up to 6; the interval and the horizon that it is tried with; and the generator's state behind its draws. The duration of operation o on slot s + 1 is
 // at 3 o + s, 0 where it does not use the slot. A dependence is four bytes, as in a file, but its delay stands as 6 more than it is.
@@ -131,6 +131,7 @@ pub fn holds(d: Drawn, e: usize, starts: &[u16; 6], interval: u16) -> bool
 
 // The loop with another dependence e.
 pub fn with_dep(d: Drawn, e: usize, from: usize, to: usize, delay: usize, distance: usize) -> Drawn
+    ensures { λ r. ⌜ r ≡ withDep d e from to delay distance ⌝ }
     ensures { λ r. ⌜ SameSizes d r ⌝ }
 {
     let mut out = d;

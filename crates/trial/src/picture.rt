@@ -5,34 +5,41 @@ use crate::drawn::duration;
 use std::num::wrapping_add_u8;
 use std::num::wrapping_add_usize;
 ghost use mathlib.Core.Path.{_≡_};
-ghost use Prim.Native.Nat.{_≤_};
-ghost use Rattle.trial.specs.Picture.{twiceIn};
+ghost use Prim.Native.Nat.{_<_, _≤_};
+ghost use Rattle.trial.specs.Picture.{dabbed, painted, added, pictureOf, twiceIn, worthOf, rowsOf};
 
 // What stands in a row that is not part of the table. No row of a drawn loop is this large.
 pub const UNTOUCHED: u64 = 18446744073709551615;
 
-// One more in the cell of a slot and a row.
-fn dab(picture: &mut [u8; 24], slot: usize, row: usize) {
+// One more in the cell of a slot and of the row of a cycle.
+fn dab(picture: &mut [u8; 24], slot: usize, cycle: usize, interval: usize)
+    ensures { λ _. ⌜ now (picture .exit) ≡ dabbed (now (picture .entry)) slot cycle interval ⌝ }
+{
     if slot < 3 {
-        if row < 8 {
-            picture[8 * slot + row] = wrapping_add_u8(picture[8 * slot + row], 1);
+        if 0 < interval {
+            let row = cycle % interval;
+            if row < 8 {
+                picture[8 * slot + row] = wrapping_add_u8(picture[8 * slot + row], 1);
+            }
         }
     }
 }
 
 // A use, cycle by cycle.
-fn paint(picture: &mut [u8; 24], slot: usize, cycles: usize, start: usize, interval: usize) {
+fn paint(picture: &mut [u8; 24], slot: usize, cycles: usize, start: usize, interval: usize)
+    ensures { λ _. ⌜ now (picture .exit) ≡ painted (now (picture .entry)) slot cycles start interval ⌝ }
+{
     let mut k = 0;
     while k < cycles {
-        if 0 < interval {
-            dab(picture, slot, wrapping_add_usize(start, k) % interval);
-        }
+        dab(picture, slot, wrapping_add_usize(start, k), interval);
         k += 1;
     }
 }
 
 // The uses of an operation, painted.
-pub fn add(picture: &mut [u8; 24], d: Drawn, op: usize, start: u16, interval: u16) {
+pub fn add(picture: &mut [u8; 24], d: Drawn, op: usize, start: u16, interval: u16)
+    ensures { λ _. ⌜ now (picture .exit) ≡ added (now (picture .entry)) d op start interval ⌝ }
+{
     let s = start as usize;
     let n = interval as usize;
     paint(picture, 0, duration(d, op, 0), s, n);
@@ -41,7 +48,9 @@ pub fn add(picture: &mut [u8; 24], d: Drawn, op: usize, start: u16, interval: u1
 }
 
 // The picture of the operations that are placed.
-pub fn of_starts(d: Drawn, starts: &[u16; 6], interval: u16) -> [u8; 24] {
+pub fn of_starts(d: Drawn, starts: &[u16; 6], interval: u16) -> [u8; 24]
+    ensures { λ r. ⌜ r ≡ pictureOf d (now (starts .entry)) interval 6 ⌝ }
+{
     let mut picture = [0u8; 24];
     let mut op = 0;
     while op < 6 {
@@ -69,18 +78,17 @@ pub fn twice(picture: &[u8; 24]) -> bool
 
 // v where a cell is painted, else 0.
 fn worth(picture: &[u8; 24], cell: usize, v: u64) -> u64
+    requires { ⌜ cell < 24 ⌝ }
+    ensures { λ r. ⌜ r ≡ worthOf (now (picture .entry)) cell v ⌝ }
     ensures { λ r. ⌜ r ≤ v ⌝ }
 {
-    if cell < 24 {
-        if 0 < picture[cell] {
-            return v;
-        }
-    }
-    0
+    if 0 < picture[cell] { v } else { 0 }
 }
 
 // The table as 8 rows: the picture's, one for each cycle of the interval, in which slot 1 is worth 1, slot 2 is worth 2 and slot 3 is worth 4; and untouched ones.
-pub fn rows(picture: &[u8; 24], interval: u16) -> [u64; 8] {
+pub fn rows(picture: &[u8; 24], interval: u16) -> [u64; 8]
+    ensures { λ r. ⌜ r ≡ rowsOf (now (picture .entry)) interval 8 ⌝ }
+{
     let n = interval as usize;
     let mut out = [UNTOUCHED; 8];
     let mut r = 0;

@@ -1,23 +1,24 @@
--- `paint` is safe and ends: its loop counts up, and the measure is what is left. Assumes nothing.
-use Prim.Native.Nat.{_-_}
+-- `paint` meets its contract: its loop has painted the first k cycles. Assumes nothing.
+use Prim.Native.Nat.{_-_, _≤_}
+use mathlib.Core.Path.{_≡_, refl}
+use native.Mathlib.Numerals.{add-one}
+use Rattle.trial.specs.Picture.{painted}
 use native.Mathlib.Omega.{arith}
 use Rattle.trial.proofs.picture.paint.Statement.{statement}
 use Rattle.trial.proofs.picture.paint.Tie as tie
 
 abbrev Inv-loop : tie.InvT-loop
-Inv-loop picture₀ slot cycles start interval k₀ picture k = Unit
+Inv-loop picture₀ slot cycles start interval k₀ picture k = (k ≤ cycles) × (picture ≡ painted picture₀ slot k start interval)
 
 abbrev μ-loop : tie.MeasureT-loop
 μ-loop picture₀ slot cycles start interval k₀ picture k = cycles - k
 
 loop-holds : tie.Need-loop-holds Inv-loop μ-loop
-loop-holds c = tt
+unfolding painted
+loop-holds c = (omega arith, refl)
 
 wrapping-add-usize-requires : tie.Need-wrapping-add-usize-requires Inv-loop μ-loop
 wrapping-add-usize-requires c κs = tt
-
-rem-dab : tie.Need-rem-dab Inv-loop μ-loop
-rem-dab c = omega arith
 
 dab-requires : tie.Need-dab-requires Inv-loop μ-loop
 dab-requires c κs = tt
@@ -29,10 +30,15 @@ loop-less : tie.Need-loop-less Inv-loop μ-loop
 loop-less c = omega arith
 
 loop-again : tie.Need-loop-again Inv-loop μ-loop
-loop-again c = tt
+unfolding painted
+loop-again c =
+    let w = c .before in
+    (omega arith, rw (add-one, ← w .wrapping-add-usize .ensures, ← w .before .before .before .loop .inv .1) (c .dab .ensures))
 
 returns : tie.Need-returns Inv-loop μ-loop
-returns c = tt
+returns c =
+    let all : c .before .loop .k ≡ c .before .before .args .cycles = omega arith in
+    rw (← all) (c .before .loop .inv .1)
 
 pub paint-spec : {M : Type 1} → statement M
 paint-spec =
@@ -42,7 +48,6 @@ paint-spec =
     μ-loop
     loop-holds
     wrapping-add-usize-requires
-    rem-dab
     dab-requires
     add-k
     loop-less
