@@ -1,7 +1,7 @@
 // The bounds of the loops of a table, which is read from standard input (the file stdin says how a line of it reads), a line each; and those of 400 random loops against a count
 // over all their cycles. What it must print of the table, the file stdout, was worked out by hand from document 01.
-pub mod cycles;
-pub mod random;
+mod cycles;
+mod random;
 
 use bounds::LowerBounds;
 use std::num::wrapping_add_usize;
@@ -57,8 +57,7 @@ fn replay_line(line: &[u8]) {
     let next = put_bytes(&mut file, q[2], q[3], line, at);
     if next < line.len() {
         if line[0] != b'#' {
-            let name = next + 1;
-            io::write_all(1, &line[name..]);
+            console::rest(line, next);
             answer(&file, q[1]);
         }
     }
@@ -78,7 +77,11 @@ fn main() {
     let mut table = [0u8; 16384];
     let input = console::read_all(&mut table);
     let n = input.count;
-    replay(&table[..n]);
+    if input.whole {
+        replay(&table[..n]);
+    } else {
+        io::write_all(1, b"cannot read\n");
+    }
     console::form(
         b"random: 400 loops, % agree\n",
         [random::agreeing(), 0, 0, 0, 0],

@@ -4,6 +4,8 @@ mod files;
 mod lengths;
 mod show;
 
+use trial::loops;
+
 // A file with a damage of the tables.
 fn changed(file: [u8; 44], damage: usize) -> [u8; 44] {
     let at = damage / 1000;
@@ -72,14 +74,14 @@ fn base() {
 
 // The answer on the smallest file.
 fn smallest() {
-    let file = files::SMALLEST;
+    let file = loops::SMALLEST;
     io::write_all(1, b"smallest");
     show::answer(&file);
 }
 
 // Whole files: loop A, R, loop A with another version, and no bytes.
 fn whole_files() {
-    let a = files::LOOP_A;
+    let a = loops::LOOP_A;
     let r = files::R;
     show::whole(b"loop A", &a);
     show::whole(b"base", &r);

@@ -1,9 +1,9 @@
 // 1,000 random small loops: the search against an exhaustive one over all lists of starts (in `words`), which takes nothing from the library. It compares the answer, with its
 // bounds, stages and probes, and the list.
-pub mod answer;
-pub mod drawing;
-pub mod lower;
-pub mod words;
+mod answer;
+mod drawing;
+mod lower;
+mod words;
 
 use std::num::wrapping_add_usize;
 

@@ -1,6 +1,6 @@
 // The verdicts of a table, which is read from standard input (the file stdin says how a line of it reads), a line each; and those on 400 random lists against a picture of the
 // slots. What it must print of the table, the file stdout, was worked out by hand from document 01, and the last line by another program.
-pub mod random;
+mod random;
 
 use trial::drawn::byte;
 use trial::drawn::least;
@@ -62,8 +62,7 @@ fn replay_line(line: &[u8]) {
     let at = console::numbers(line, 0, &mut q);
     if at < line.len() {
         if line[0] != b'#' {
-            let name = at + 1;
-            io::write_all(1, &line[name..]);
+            console::rest(line, at);
             of_file(&q);
         }
     }
@@ -83,6 +82,10 @@ fn main() {
     let mut table = [0u8; 16384];
     let input = console::read_all(&mut table);
     let n = input.count;
-    replay(&table[..n]);
+    if input.whole {
+        replay(&table[..n]);
+    } else {
+        io::write_all(1, b"cannot read\n");
+    }
     random::lists();
 }
