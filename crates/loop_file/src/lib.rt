@@ -43,7 +43,7 @@ fn passed_on(p: Part) -> Reading
     }
 }
 
-// The body OPER of an accepted file, as part of the file; of a refused one the empty part.
+// The body OPER of an accepted file, as part of the file; of a refused one the empty part, since an enum cannot hold a part: `read` tells the refusal.
 pub fn oper_body(file: &[u8]) -> &[u8]
     ensures { λ r. ⌜ now r ≡ operBody (now (file .entry)) ⌝ }
 {
@@ -55,7 +55,7 @@ pub fn oper_body(file: &[u8]) -> &[u8]
     &file[26..end]
 }
 
-// The body USES, likewise.
+// The body USES, likewise: empty also where no operation has a use, which `read` tells apart.
 pub fn uses_body(file: &[u8]) -> &[u8]
     ensures { λ r. ⌜ now r ≡ usesBody (now (file .entry)) ⌝ }
 {
@@ -68,7 +68,7 @@ pub fn uses_body(file: &[u8]) -> &[u8]
     &file[start..end]
 }
 
-// The body DEPS, likewise.
+// The body DEPS, likewise: empty also where there is no dependence, which `read` tells apart.
 pub fn deps_body(file: &[u8]) -> &[u8]
     ensures { λ r. ⌜ now r ≡ depsBody (now (file .entry)) ⌝ }
 {

@@ -15,7 +15,8 @@ use Rattle.model.specs.Bounds.{Lower, LowerIs}
 
 -- ---- one interval, over any predicate L of lists that says which are legal
 
--- every list of 1 to n numbers below h: a list before its extensions, else in dictionary order
+-- every list of 1 to n numbers below h: a list before its extensions, else in dictionary order. The lists shorter than n are there for the probes, each of which is one of them: a legal prefix and a
+-- next start joined; the answer is looked for among those of n
 unfoldable pub words : ℕ → ℕ → List (List ℕ)
 words h zero = []
 words h (suc n) = flatMap (λ s. (s ∷ []) ∷ map (s ∷_) (words h n)) (upFrom 0 h)
@@ -133,7 +134,8 @@ pub record Schedule : Type 0 where
   pub count : ℕ
   pub starts : List ℕ
 
--- what a search that was made comes to: a schedule, or refusal 10 or 11, which also carry the count
+-- what a search that was made comes to: a schedule, or refusal 10 or 11, which also carry the count. Both are refusals of document 01; they stand here, and so under `answered`, because the search was made: the rows are
+-- cleared and probes were counted, as for no other refusal
 pub data Outcome : Type 0 where
   found : Schedule → Outcome
   ended : Refusal → (count : ℕ) → Outcome

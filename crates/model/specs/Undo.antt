@@ -23,7 +23,8 @@ abbrev pub NoneGives : ℕ → List (Answer Reply) → Type 0
 NoneGives m [] = Unit {0}
 NoneGives m (a ∷ rs) = (gives m a ≡ false) × NoneGives m rs
 
--- the state just after the last checkpoint call that answered m; `last` where there is none
+-- the state just after the last checkpoint call that answered m; `last` where there is none. The calls cs are made from st on; a later call that answers m takes the place of an earlier one, also where the earlier checkpoint was
+-- released or rolled back over in between
 unfoldable pub markedBy : Setup → ℕ → List Call → State → State → State
 markedBy u m [] st last = last
 markedBy u m (c ∷ cs) st last = markedBy u m cs (step u c st .0) (cond (gives m (step u c st .1)) (step u c st .0) last)

@@ -49,7 +49,8 @@ asUnbounded (lower.Refused n d) = searched.Refused n d
 
 -- ---- the whole call
 
--- the answer r to a file and a request, with a list and a table that end as list′ and rows′: the answer is the model's, and so is what the lent memory then holds
+-- the answer r to a file and a request, with a list and a table that end as list′ and rows′: the answer is the model's, and so is what the lent memory then holds. The code's answer does not carry the starts, so `answerOf` reads them off list′;
+-- that is no circle: `says` fixes them as the model's, which do not depend on list′, and `list-is` then fixes all of list′
 pub record Searches (f : List ℕ) (cap horizon budget : ℕ) (list rows : List ℕ) (r : Searched) (list′ rows′ : List ℕ) : Type 0 where
   pub says : SearchIs f (record { cap = cap; horizon = horizon; budget = budget }) (length list) (length rows) (answerOf (loopOf f) list′ r)
   pub list-is : list′ ≡ listAfter (answerOf (loopOf f) list′ r) list

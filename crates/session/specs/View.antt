@@ -49,7 +49,8 @@ pub record Valid (s : Session) (rows : List ℕ) : Type 0 where
   pub kept : (i : ℕ) → i < s .marks → Sane (loopOf (fileOf s)) (s .interval) (s .horizon) (getD (s .saved) i blank .at)
 
 -- what every call ensures: answer and state are the model's, the setup stays, the rows are the state's table and later rows as they were, the session is one that calls
--- take; and a refused call hands back the session and the rows that it was given
+-- take; and a refused call hands back the session and the rows that it was given. Left free of an accepted call: the copies of starts past the open checkpoints, and the bytes of the store past the file's length. No call
+-- reads either, and `stateOf` and `setupOf` do not see them
 pub record Stepped (c : Call) (s : Session) (rows : List ℕ) (s′ : Session) (rows′ : List ℕ) (r : Reply) : Type 0 where
   pub reply : replyOf r ≡ step (setupOf s) c (stateOf s) .1
   pub state : stateOf s′ ≡ step (setupOf s) c (stateOf s) .0
@@ -69,7 +70,7 @@ abbrev pub openingOf : Session → Checked → Answer Setup
 openingOf s checked.Fine = answered (setupOf s)
 openingOf s (checked.Refused n d) = refused (record { number = n; detail = d })
 
--- opening with any file, numbers and table: the answer and the rows are the model's; where the session opens it is empty and one that calls take, else it is that of nothing
+-- opening with any file, numbers and table: the answer and the rows are the model's; where the session opens it is empty and one that calls take, else it is that of nothing. Left free of an opened one: the 16 copies of starts, none of which is a checkpoint's, and the bytes of the store past the file's length
 pub record Opened (f : List ℕ) (ii h : ℕ) (rows : List ℕ) (s : Session) (a : Checked) (rows′ : List ℕ) : Type 0 where
   pub says : openingOf s a ≡ openFile f ii h (length rows)
   pub rows-are : rows′ ≡ openRows (openFile f ii h (length rows)) rows
