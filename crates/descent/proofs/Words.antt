@@ -1,16 +1,16 @@
 -- The words of a search: each list of 1 to n numbers below h is one of them, once, in dictionary order; the answer is the first legal one of n. Assumes nothing.
-use mathlib.Core.Path.{_≡_, refl, sym, ap, _∙_, fun-ext}
+use mathlib.Core.Path.{_≡_, refl, sym, ap, ap₂, _∙_, fun-ext}
 use mathlib.Core.Bool.{Bool, true, false, cond, _&&_, or-true}
 use mathlib.Core.List.{List, [], _∷_, _++_, map, flatMap}
 use mathlib.Core.Logic.{_⊎_, inl, inr}
 use mathlib.Core.Option.{Option, none, some}
 use Prim.Native.Nat.{ℕ, zero, suc, _+_, _-_, _≤_, _<_}
 use native.Mathlib.Nat.{le-of-suc-le-suc, eq-or-lt-of-le}
-use native.Mathlib.Decide.{ℕ-discrete}
+use native.Mathlib.Decide.{decLt, ℕ-discrete}
 use native.Mathlib.Omega.{arith}
 use lib.Dec.{eqb, ltb}
 use lib.ListN.{length, getD}
-use borrow.Author.Tests.{eqb-true, eq-eqb, ne-eqb, lt-ltb}
+use borrow.Author.Tests.{eqb-true, eq-eqb, ne-eqb, lt-ltb, le-ltb}
 use Rattle.model.specs.Lists.{upFrom, any, first, count, sumOf}
 use Rattle.model.specs.Search.{words, whole, answer, notAfter}
 use Rattle.descent.specs.Tree.{tree, over}
@@ -229,6 +229,24 @@ after-same s a b e = rw (eq-eqb s s refl, e) (or-true (ltb s s))
 
 after-more : (s x : ℕ) (a b : List ℕ) → s < x → notAfter (s ∷ a) (x ∷ b) ≡ true
 after-more s x a b l = rw (lt-ltb s x l)
+
+-- two lists of one length of which neither is after the other are one
+pub after-both : (xs ys : List ℕ) → length xs ≡ length ys → notAfter xs ys ≡ true → notAfter ys xs ≡ true → xs ≡ ys
+after-both [] [] l p q = refl
+after-both [] (y ∷ ys) l p q = absurd (omega arith)
+after-both (x ∷ xs) [] l p q = absurd (omega arith)
+after-both (x ∷ xs) (y ∷ ys) l p q = pick (decLt x y) (decLt y x) (after-both xs ys (omega arith))
+  where
+    pick : Dec (x < y) → Dec (y < x) → (notAfter xs ys ≡ true → notAfter ys xs ≡ true → xs ≡ ys) → x ∷ xs ≡ y ∷ ys
+    pick (yes m) d ih =
+        let z : false ≡ true = rw (le-ltb y x (omega arith), ne-eqb y x (λ e. omega arith)) at q in let w : _≡_ {A = ℕ} 0 1 = cc in absurd (omega arith)
+    pick (no m) (yes n) ih =
+        let z : false ≡ true = rw (le-ltb x y (omega arith), ne-eqb x y (λ e. omega arith)) at p in let w : _≡_ {A = ℕ} 0 1 = cc in absurd (omega arith)
+    pick (no m) (no n) ih =
+        let e : x ≡ y = omega arith in
+        let f : notAfter xs ys ≡ true = rw (le-ltb x y (omega arith), eq-eqb x y e) at p in
+        let g : notAfter ys xs ≡ true = rw (le-ltb y x (omega arith), eq-eqb y x (sym e)) at q in
+        ap₂ (λ (a : ℕ) (v : List ℕ). a ∷ v) e (ih f g)
 
 -- found among the words that begin with s
 branch-first : (p : List ℕ → Bool) (h n s : ℕ) (c : List ℕ) (x : ℕ) (b : List ℕ) → Ordered h n → first (λ w. p (s ∷ w)) (tree h n) ≡ some c → (s ≡ x) ⊎ (s < x)

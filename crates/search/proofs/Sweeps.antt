@@ -1,5 +1,5 @@
 -- What a sweep over the intervals comes to: a schedule, 10 or 11, and what is then known of every interval and of the probes. Assumes nothing.
-use mathlib.Core.Path.{_≡_, refl, ap, _∙_}
+use mathlib.Core.Path.{_≡_, refl, sym, ap, ap₂, _∙_}
 use mathlib.Core.Bool.{Bool, true, false}
 use mathlib.Core.List.{List}
 use mathlib.Core.Logic.{_⊎_, inl, inr}
@@ -17,36 +17,17 @@ use Rattle.model.specs.Bounds.{resourceBound, RecurrenceBound, Lower, LowerIs, 
 use Rattle.model.specs.Search.{answer, notAfter, probes, stageCount, Request, Schedule, Outcome, found, ended, intervals, tryInterval, sweep}
 use Rattle.model.proofs.Lists.{upFrom-split, sum-append}
 use Rattle.bounds.proofs.Needed.{bounds-needed}
-use Rattle.descent.proofs.Words.{Below, answer-is, answer-first, answer-none}
-
--- ---- words of the statements
-
--- one start an operation, each below the horizon
-abbrev pub Listed : Loop → Request → List ℕ → Type 0
-Listed l q xs = (length xs ≡ size l) × Below (q .horizon) xs
-
--- no such list is legal at jj
-abbrev pub NoneAt : Loop → Request → ℕ → Type 0
-NoneAt l q jj = (xs : List ℕ) → Listed l q xs → legal l jj xs ≡ false
-
--- the probes of the intervals from lo on that are below hi
-unfoldable pub spentBelow : Loop → Request → ℕ → ℕ → ℕ
-spentBelow l q lo hi = sumOf (λ jj. probes (legal l jj) (q .horizon) (size l)) (upFrom lo (hi - lo))
-
--- 10 at the cap, and 11 at an interval
-abbrev pub ten : Request → Refusal
-ten q = record { number = 10; detail = q .cap }
-
-abbrev pub eleven : ℕ → Refusal
-eleven ii = record { number = 11; detail = ii }
-
--- the larger bound
-abbrev pub larger : Lower → ℕ
-larger b = max (b .resource) (b .recurrence)
+use Rattle.descent.proofs.Words.{after-both, answer-is, answer-first, answer-none}
+use Rattle.search.specs.Demand2.{Listed, NoneAt, spentBelow, ten, eleven, larger, FoundIs, TenIs, ElevenIs}
 
 -- the sweep over all intervals
 abbrev pub sweepAll : Loop → Request → Lower → Outcome
 sweepAll l q b = sweep l q b 0 (intervals b (q .cap))
+
+-- a schedule by its interval and starts, where its other parts are these
+parts : {s : Schedule} {b : Lower} {stages count : ℕ} → s .bounds ≡ b → s .stages ≡ stages → count ≡ s .count
+    → _≡_ {A = Schedule} (record { ii = s .ii; bounds = b; stages = stages; count = count; starts = s .starts }) s
+parts {s} p r c = rw (sym p, sym r, c)
 
 -- 10 and 11 are told apart by their numbers
 ten-not-eleven : (q : Request) (ii : ℕ) → ten q ≡ eleven ii → ⊥
@@ -144,45 +125,6 @@ module _ (l : Loop) (q : Request) (b : Lower) where
           by-found lo xs (omega arith) (omega arith) (λ jj i j. absurd (omega arith)) a (omega (arith, to-here))
           (rw (le-ltb (q .budget) total (omega arith), to-here))
 
--- ---- what is said of each outcome
-
--- what is known of a schedule that is found
-pub record FoundIs (l : Loop) (q : Request) (b : Lower) (s : Schedule) : Type 0 where
-  -- its interval is one of those tried
-  pub within : larger b ≤ s .ii
-  pub capped : s .ii ≤ q .cap
-  pub bounds-are : s .bounds ≡ b
-  pub stages-are : s .stages ≡ stageCount l (s .ii) (s .starts)
-  -- its starts are legal, and the first such list in dictionary order
-  pub listed : Listed l q (s .starts)
-  pub is-legal : legal l (s .ii) (s .starts) ≡ true
-  pub first : (xs : List ℕ) → Listed l q xs → legal l (s .ii) xs ≡ true → notAfter (s .starts) xs ≡ true
-  -- no smaller interval has one
-  pub smallest : (jj : ℕ) → 1 ≤ jj → jj < s .ii → (xs : List ℕ) → Listed l q xs → legal l jj xs ≡ false
-  -- the count is that of the intervals up to it, and within the budget
-  pub counted : s .count ≡ spentBelow l q (larger b) (suc (s .ii))
-  pub afforded : s .count ≤ q .budget
-
--- what is known where the sweep ends by 10, with this count
-pub record TenIs (l : Loop) (q : Request) (b : Lower) (count : ℕ) : Type 0 where
-  -- no interval up to the cap has a legal list
-  pub never : (jj : ℕ) → 1 ≤ jj → jj ≤ q .cap → (xs : List ℕ) → Listed l q xs → legal l jj xs ≡ false
-  -- the count is that of all intervals, and within the budget
-  pub counted : count ≡ spentBelow l q (larger b) (suc (q .cap))
-  pub afforded : count ≤ q .budget
-
--- what is known where it ends by 11 at interval ii
-pub record ElevenIs (l : Loop) (q : Request) (b : Lower) (ii count : ℕ) : Type 0 where
-  -- it is one of those tried
-  pub within : larger b ≤ ii
-  pub capped : ii ≤ q .cap
-  -- no smaller one has a legal list
-  pub smaller : (jj : ℕ) → 1 ≤ jj → jj < ii → (xs : List ℕ) → Listed l q xs → legal l jj xs ≡ false
-  -- the budget is spent: it suffices for the intervals before ii, and not for ii as well
-  pub counted : count ≡ q .budget
-  pub afforded : spentBelow l q (larger b) ii ≤ q .budget
-  pub exceeded : q .budget < spentBelow l q (larger b) (suc ii)
-
 -- ---- the sweep over all intervals
 
 module _ (l : Loop) (ok : LoopOk l) (q : Request) (b : Lower) (is : LowerIs l (answered b)) where
@@ -250,23 +192,24 @@ module _ (l : Loop) (ok : LoopOk l) (q : Request) (b : Lower) (is : LowerIs l (a
           let z : count ≡ 0 + spentBelow l q (larger b) (suc (q .cap)) = cc in
           record { never = λ jj i j. none-from (suc (q .cap)) f jj i (omega arith); counted = omega arith; afforded = omega arith }
 
-  -- where no interval has a legal list and the budget suffices for all, it is 10
-  pub is-ten : ((jj : ℕ) → 1 ≤ jj → jj ≤ q .cap → (xs : List ℕ) → Listed l q xs → legal l jj xs ≡ false)
-      → spentBelow l q (larger b) (suc (q .cap)) ≤ q .budget
-      → sweepAll l q b ≡ ended (ten q) (spentBelow l q (larger b) (suc (q .cap)))
-  is-ten n m = pick (sweepAll l q b) comes-all
+  -- a legal list at an interval that has none, which cannot be
+  not-both : (jj : ℕ) (xs : List ℕ) → NoneAt l q jj → Listed l q xs → legal l jj xs ≡ true → ⊥
+  not-both jj xs n w t = let u : legal l jj xs ≡ false = n xs w in let z : _≡_ {A = ℕ} 0 1 = cc in omega arith
+
+  -- an interval that is tried is one from 1 on
+  from-one : (jj : ℕ) → larger b ≤ jj → 1 ≤ jj
+  from-one jj m = let c = the-bounds in omega (arith, c .1 .positive, c .2)
+
+  -- where that is so, it ends by 10
+  pub is-ten : (count : ℕ) → TenIs l q b count → sweepAll l q b ≡ ended (ten q) count
+  is-ten count t = pick (sweepAll l q b) comes-all
     where
-      pick : (o : Outcome) → Comes l q b (larger b) (suc (q .cap)) 0 o
-          → o ≡ ended (ten q) (spentBelow l q (larger b) (suc (q .cap)))
+      pick : (o : Outcome) → Comes l q b (larger b) (suc (q .cap)) 0 o → o ≡ ended (ten q) count
       pick o (by-found ii xs i j f a h g) =
           let w = answer-is (legal l ii) (q .horizon) (size l) xs a in
-          let c = the-bounds in
-          let t : legal l ii xs ≡ true = w .2 in
-          let u : legal l ii xs ≡ false = n ii (omega (arith, c .1 .positive, c .2)) (omega arith) xs (w .0, w .1) in
-          let z : _≡_ {A = ℕ} 0 1 = cc in
-          absurd (omega arith)
-      pick o (by-eleven ii i j f h k g) = absurd (omega (arith, spent-more l q (larger b) (suc ii) (suc (q .cap)) (omega arith)))
-      pick o (by-ten f h g) = g ∙ ap (ended (ten q)) (omega arith)
+          absurd (not-both ii xs (t .never ii (from-one ii i) (omega arith)) (w .0, w .1) (w .2))
+      pick o (by-eleven ii i j f h k g) = absurd (omega (arith, t .counted, t .afforded, spent-more l q (larger b) (suc ii) (suc (q .cap)) (omega arith)))
+      pick o (by-ten f h g) = g ∙ ap (ended (ten q)) (omega (arith, t .counted))
 
   -- a sweep that ends by 11
   pub eleven-is : (ii count : ℕ) → sweepAll l q b ≡ ended (eleven ii) count → ElevenIs l q b ii count
@@ -281,6 +224,63 @@ module _ (l : Loop) (ok : LoopOk l) (q : Request) (b : Lower) (is : LowerIs l (a
           let c : count ≡ q .budget = cc in
           rw z
           (record { within = i; capped = omega arith; smaller = none-from jj f; counted = c; afforded = omega arith; exceeded = omega arith })
+
+  -- a schedule of which all that is known is found
+  pub is-found : (s : Schedule) → FoundIs l q b s → sweepAll l q b ≡ found s
+  is-found s t = pick (sweepAll l q b) comes-all
+    where
+      -- its interval is no smaller than one at which a list is found, and no larger
+      here : (ii : ℕ) (xs : List ℕ) → larger b ≤ ii → ((jj : ℕ) → larger b ≤ jj → jj < ii → NoneAt l q jj) → answer (legal l ii) (q .horizon) (size l) ≡ some xs → ii ≡ s .ii
+      here ii xs i f a = eq (decLt ii (s .ii)) (decLt (s .ii) ii)
+        where
+          eq : Dec (ii < s .ii) → Dec (s .ii < ii) → ii ≡ s .ii
+          eq (yes m) d =
+              let w = answer-is (legal l ii) (q .horizon) (size l) xs a in absurd (not-both ii xs (t .smallest ii (from-one ii i) m) (w .0, w .1) (w .2))
+          eq (no m) (yes n) = absurd (not-both (s .ii) (s .starts) (f (s .ii) (t .within) n) (t .listed) (t .is-legal))
+          eq (no m) (no n) = omega arith
+
+      -- and the list is the first one
+      there : (xs : List ℕ) → answer (legal l (s .ii)) (q .horizon) (size l) ≡ some xs → xs ≡ s .starts
+      there xs a =
+          let w = answer-is (legal l (s .ii)) (q .horizon) (size l) xs a in
+          after-both xs (s .starts) (w .0 ∙ sym (t .listed .0))
+          (answer-first (legal l (s .ii)) (q .horizon) (size l) xs (ok .some) a (s .starts) (t .listed .0) (t .listed .1) (t .is-legal))
+          (t .first xs (w .0, w .1) (w .2))
+
+      pick : (o : Outcome) → Comes l q b (larger b) (suc (q .cap)) 0 o → o ≡ found s
+      pick o (by-found ii xs i j f a h g) =
+          let e : ii ≡ s .ii = here ii xs i f a in
+          let d : xs ≡ s .starts = there xs (rw e at a) in
+          g ∙ same-schedule ii xs e d
+        where
+          same-schedule : (ii : ℕ) (xs : List ℕ) → ii ≡ s .ii → xs ≡ s .starts
+              → found (record { ii = ii; bounds = b; stages = stageCount l ii xs; count = 0 + spentBelow l q (larger b) (suc ii); starts = xs }) ≡ found s
+          same-schedule ii xs e d = ap found (rw (e, d) (parts (t .bounds-are) (t .stages-are) (omega (arith, t .counted))))
+      pick o (by-ten f h g) = absurd (not-both (s .ii) (s .starts) (f (s .ii) (t .within) (omega (arith, t .capped))) (t .listed) (t .is-legal))
+      pick o (by-eleven ii i j f h k g) = over (decLt (s .ii) ii)
+        where
+          over : Dec (s .ii < ii) → o ≡ found s
+          over (yes m) = absurd (not-both (s .ii) (s .starts) (f (s .ii) (t .within) m) (t .listed) (t .is-legal))
+          over (no m) = absurd (omega (arith, t .counted, t .afforded, spent-more l q (larger b) (suc ii) (suc (s .ii)) (omega arith)))
+
+  -- a budget that is spent so is told by 11
+  pub is-eleven : (ii count : ℕ) → ElevenIs l q b ii count → sweepAll l q b ≡ ended (eleven ii) count
+  is-eleven ii count t = pick (sweepAll l q b) comes-all
+    where
+      pick : (o : Outcome) → Comes l q b (larger b) (suc (q .cap)) 0 o → o ≡ ended (eleven ii) count
+      pick o (by-found jj xs i j f a h g) = early (decLt jj ii)
+        where
+          early : Dec (jj < ii) → o ≡ ended (eleven ii) count
+          early (yes m) = let w = answer-is (legal l jj) (q .horizon) (size l) xs a in absurd (not-both jj xs (t .smaller jj (from-one jj i) m) (w .0, w .1) (w .2))
+          early (no m) = absurd (omega (arith, t .exceeded, spent-more l q (larger b) (suc ii) (suc jj) (omega arith)))
+      pick o (by-ten f h g) = absurd (omega (arith, t .exceeded, spent-more l q (larger b) (suc ii) (suc (q .cap)) (omega (arith, t .capped))))
+      pick o (by-eleven jj i j f h k g) = same (decLt jj ii) (decLt ii jj)
+        where
+          same : Dec (jj < ii) → Dec (ii < jj) → o ≡ ended (eleven ii) count
+          same (yes m) d = absurd (omega (arith, t .afforded, spent-more l q (larger b) (suc jj) ii (omega arith)))
+          same (no m) (yes n) = absurd (omega (arith, t .exceeded, spent-more l q (larger b) (suc ii) jj (omega arith)))
+          same (no m) (no n) =
+              let e : jj ≡ ii = omega arith in g ∙ ap₂ (λ (x c : ℕ). ended (eleven x) c) e (sym (t .counted))
 
   -- a sweep that ends without a schedule: by 10 at the cap, or by 11
   pub ended-only : (r : Refusal) (count : ℕ) → sweepAll l q b ≡ ended r count → (r ≡ ten q) ⊎ (r .number ≡ 11)

@@ -1,3 +1,4 @@
 pub mod Answer
+pub mod Demand2
 pub mod Request
 pub mod Sweep
