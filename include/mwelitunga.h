@@ -26,6 +26,9 @@
 extern "C" {
 #endif
 
+/* The version of the library and of this header; CHANGELOG.md says what each version has. */
+#define MWELITUNGA_VERSION "0.1.0"
+
 /* The largest loop file in bytes, and the most operations that a loop has. */
 #define MW_FILE_MOST 1690
 #define MW_OPERATIONS_MOST 64
@@ -54,7 +57,7 @@ extern "C" {
 #define MW_REFUSED_CHECKPOINTS 18     /* 16 checkpoints are open already: 0 */
 #define MW_REFUSED_NO_CHECKPOINT 19   /* there is no such checkpoint: 0 */
 #define MW_REFUSED_ROOM 20            /* a list that is shorter than the operations, or too few rows: the length that was passed */
-#define MW_REFUSED_REPLIES 254        /* mw_session: room for fewer than two replies a call: the length that was passed */
+#define MW_REFUSED_REPLIES 254        /* mw_session: `replies` has room for fewer than two numbers a call: the length that was passed */
 #define MW_REFUSED_CALLS 255          /* mw_session: a call of no kind: its number from 0; numbers left over at the end: the number of whole calls */
 
 /* The verdicts of mw_verify. */

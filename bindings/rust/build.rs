@@ -1,7 +1,7 @@
 //! Finds the static library, has it proved and built where it is missing, and tells Cargo to link it.
 //!
-//! Where `MWELITUNGA_LIB_DIR` is set, the library is `libmwelitunga.a` in that folder. Otherwise it is
-//! `target/staticlib/libmwelitunga.a` of the repository that this crate stands in.
+//! Where `MWELITUNGA_LIB_DIR` is set, the library is `libmwelitunga.a` in that folder; a relative path begins where Cargo
+//! was called. Otherwise it is `target/staticlib/libmwelitunga.a` of the repository that this crate stands in.
 
 use std::env;
 use std::path::{Path, PathBuf};
@@ -57,16 +57,48 @@ fn check_target() -> Result<(), String> {
     }
 }
 
-/// The folder that the variable names, which must have the library already.
+/// The folder that the variable names, which must have the library already. The path is made whole: the linker is
+/// called in another folder than this script.
 fn given(folder: PathBuf) -> Result<PathBuf, String> {
-    if folder.join(LIBRARY).is_file() {
-        Ok(folder)
+    let whole = if folder.is_relative() {
+        // Called elsewhere, the same words are another folder.
+        println!("cargo:rerun-if-env-changed=PWD");
+        where_called()?.join(&folder)
+    } else {
+        folder.clone()
+    };
+    if whole.join(LIBRARY).is_file() {
+        Ok(whole)
     } else {
         Err(format!(
-            "{VARIABLE} is set to {}, where there is no {LIBRARY}",
-            folder.display()
+            "{VARIABLE} is set to \"{}\", but there is no {}",
+            folder.display(),
+            whole.join(LIBRARY).display()
         ))
     }
+}
+
+/// The folder in which Cargo was called. Cargo runs this script in the folder of the package, and stays itself where it
+/// was called. Where the system does not tell that, `PWD` is what the caller's shell said.
+fn where_called() -> Result<PathBuf, String> {
+    of_cargo()
+        .or_else(|| env::var_os("PWD").map(PathBuf::from))
+        .filter(|folder| folder.is_absolute())
+        .ok_or_else(|| {
+            format!("{VARIABLE} is a relative path, and where Cargo was called is not known: set it to a whole path")
+        })
+}
+
+/// The folder that Cargo, the parent process of this script, is in.
+#[cfg(unix)]
+fn of_cargo() -> Option<PathBuf> {
+    let cargo = std::os::unix::process::parent_id();
+    std::fs::read_link(format!("/proc/{cargo}/cwd")).ok()
+}
+
+#[cfg(not(unix))]
+fn of_cargo() -> Option<PathBuf> {
+    None
 }
 
 /// The folder below the repository's root in which `rt` writes the library; built now where it is missing.

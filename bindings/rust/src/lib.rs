@@ -59,6 +59,9 @@ pub use search::{search, search_in, Found, Request, Schedule, SearchError, SEARC
 pub use session::{replay, Call, Replay, Reply};
 pub use verifier::{verify, Verdict};
 
+/// The version of this crate, which is that of the library and its C header (`MWELITUNGA_VERSION`).
+pub const VERSION: &str = env!("CARGO_PKG_VERSION");
+
 /// The page of the crate, so that its example is run with those of the documentation.
 #[cfg(doctest)]
 #[doc = include_str!("../README.md")]

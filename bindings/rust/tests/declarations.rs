@@ -1,4 +1,4 @@
-//! The declarations of this crate against the C header: names, numbers and types, which no compiler compares.
+//! The declarations of this crate against the C header: names, numbers, types and the version, which no compiler compares.
 
 use std::collections::BTreeMap;
 
@@ -21,6 +21,15 @@ fn constants() -> BTreeMap<&'static str, usize> {
             let mut words = define.split_whitespace();
             Some((words.next()?, words.next()?.parse().ok()?))
         })
+        .collect()
+}
+
+/// The texts that the header defines a name as: one, where it is defined once.
+fn texts_of(name: &str) -> Vec<&'static str> {
+    HEADER
+        .lines()
+        .filter_map(|line| line.strip_prefix("#define ")?.strip_prefix(name))
+        .filter_map(|rest| rest.strip_prefix(" \"")?.strip_suffix('"'))
         .collect()
 }
 
@@ -128,6 +137,12 @@ fn refusals_have_the_numbers_of_the_header() {
         number += 1;
     }
     assert_eq!(number, 22);
+}
+
+#[test]
+fn the_version_is_that_of_the_header() {
+    assert_eq!(texts_of("MWELITUNGA_VERSION"), [env!("CARGO_PKG_VERSION")]);
+    assert_eq!(mwelitunga::VERSION, env!("CARGO_PKG_VERSION"));
 }
 
 #[test]
