@@ -1,6 +1,6 @@
 -- Laws of the reservation table, over the base. Assumes nothing.
 use mathlib.Core.Path.{_≡_, refl, sym, ap, _∙_, fun-ext}
-use mathlib.Core.Bool.{and-false}
+use mathlib.Core.Bool.{Bool, true, false, cond, and-false}
 use mathlib.Core.Logic.{_⊎_, inl, inr}
 use mathlib.Core.List.{List, [], _∷_, _++_, map, flatMap}
 use mathlib.Core.Option.{none}
@@ -13,11 +13,11 @@ use lib.Arith.{digits-lt}
 use lib.ListN.{length, getD, set, take, replicate, length-set, length-replicate, getD-replicate}
 use lib.Pow.{pow-add}
 use lib.Seq.{ext-getD, getD-take, getD-set-same, getD-set-other, length-take-le, take-all}
-use Rattle.model.specs.Lists.{upFrom, count}
+use Rattle.model.specs.Lists.{upFrom, any, count}
 use Rattle.model.specs.Loop.{Loop, size, opAt}
-use Rattle.model.specs.Legality.{Placing, Cell}
-use Rattle.model.specs.Table.{countOf, number, rowNumber, tableOf, opCells, cellsOf, IsTable, digitOf, Digits}
-use Rattle.model.proofs.Lists.{count-append, length-tabulate, getD-tabulate}
+use Rattle.model.specs.Legality.{Placing, Cell, sameCell}
+use Rattle.model.specs.Table.{countOf, number, rowNumber, tableOf, opCells, cellsOf, coveredAt, IsTable, digitOf, Digits}
+use Rattle.model.proofs.Lists.{any-flatMap, count-append, count-none, none-count, length-tabulate, getD-tabulate}
 
 -- ---- the count of a cell
 
@@ -232,6 +232,34 @@ module _ (base ii s r : ℕ) (cells : List Cell) (rows : List ℕ) (inside : r <
 pub digit-count : (base ii s r : ℕ) (cells : List Cell) (rows : List ℕ) → IsTable base ii cells rows → Digits base cells → r < ii → 1 ≤ s → s ≤ 24
     → digitOf base (getD rows r 0) s ≡ countOf s r cells
 digit-count base ii s r cells rows t d l lo hi = rw (t .at r l) (row-digit base s r cells lo hi (λ u. d u r))
+
+-- a count of at most 1 says whether there is one
+count-any : {A : Type 0} (p : A → Bool) (xs : List A) → count p xs ≤ 1 → count p xs ≡ cond (any p xs) 1 0
+count-any p xs l = pick (any p xs) refl
+  where
+    pick : (b : Bool) → any p xs ≡ b → count p xs ≡ cond b 1 0
+    pick false e = count-none p xs e
+    pick true e = some-one (ℕ-discrete (count p xs) 0)
+      where
+        some-one : Dec (count p xs ≡ 0) → count p xs ≡ 1
+        some-one (yes z) =
+            let f : any p xs ≡ false = none-count p xs z in let w : _≡_ {A = ℕ} 0 1 = cc in absurd (omega arith)
+        some-one (no z) = omega arith
+
+-- in base 2 a bit is 1 exactly where a placed operation covers that slot and row
+pub bit-covered : (l : Loop) (ii : ℕ) (f : Placing) (rows : List ℕ) → IsTable 2 ii (cellsOf l ii f) rows → Digits 2 (cellsOf l ii f)
+    → (s r : ℕ) → r < ii → 1 ≤ s → s ≤ 24 → digitOf 2 (getD rows r 0) s ≡ cond (coveredAt l ii f s r) 1 0
+unfolding cellsOf coveredAt
+bit-covered l ii f rows t d s r m lo hi =
+    let same : Cell → Bool = sameCell (record { slot = s; row = r }) in
+    let cells : ℕ → List Cell = λ o. opCells ii (opAt l o) (f o) in
+    digit-count 2 ii s r (flatMap cells (upFrom 0 (size l))) rows t d m lo hi
+    ∙ count-any same (flatMap cells (upFrom 0 (size l))) (omega (arith, d s r))
+    ∙ ap (λ (b : Bool). cond b 1 0) (any-flatMap same cells (upFrom 0 (size l)))
+
+-- and no bit stands above those of the 24 slots
+pub bits-end : (ii : ℕ) (cells : List Cell) (rows : List ℕ) → IsTable 2 ii cells rows → Digits 2 cells → (r : ℕ) → r < ii → getD rows r 0 < 2 ^ 24
+bits-end ii cells rows t d r m = rw (t .at r m) (row-lt 2 r cells (λ u. d u r))
 
 -- a row has room for one unit more in 64 bits
 pub row-fits : (base ii s r : ℕ) (cells : List Cell) (rows : List ℕ) → base ^ 24 + base ^ 23 ≤ 2 ^ 64 → 0 < base → IsTable base ii cells rows → Digits base cells → r < ii → s ≤ 24

@@ -1,10 +1,11 @@
 -- The modulo reservation table (document 01: row table): rows as numbers, made from a multiset of cells. Assumes nothing.
 use mathlib.Core.Path.{_≡_}
+use mathlib.Core.Bool.{Bool}
 use mathlib.Core.List.{List, [], map, flatMap}
 use mathlib.Core.Option.{Option, none, some}
 use Prim.Native.Nat.{ℕ, zero, suc, _+_, _-_, _*_, _/_, _%_, _^_, _≤_, _<_}
 use lib.ListN.{length, getD}
-use Rattle.model.specs.Lists.{upFrom, count}
+use Rattle.model.specs.Lists.{upFrom, any, count}
 use Rattle.model.specs.Loop.{Op, Loop, size, opAt}
 use Rattle.model.specs.Legality.{Placing, Cell, sameCell, footprint}
 
@@ -37,6 +38,10 @@ cellsOf l ii f = flatMap (λ o. opCells ii (opAt l o) (f o)) (upFrom 0 (size l))
 -- the table of a placing: a bit is 1 exactly where a placed operation covers that slot and row, while nothing conflicts
 abbrev pub tableAt : Loop → ℕ → Placing → List ℕ
 tableAt l ii f = tableOf 2 ii (cellsOf l ii f)
+
+-- whether a placed operation covers slot s in row r
+unfoldable pub coveredAt : Loop → ℕ → Placing → (s r : ℕ) → Bool
+coveredAt l ii f s r = any (λ o. any (sameCell (record { slot = s; row = r })) (opCells ii (opAt l o) (f o))) (upFrom 0 (size l))
 
 -- ---- the same, row by row
 

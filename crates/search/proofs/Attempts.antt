@@ -16,8 +16,8 @@ use Rattle.model.proofs.Sums.{max-same}
 use Rattle.reservation.proofs.Stores.{cleared, cleared-length}
 use Rattle.search.specs.Sweep.{Clear, outcomeOf, SweptIs, Ranged, keptOf}
 use Rattle.search.specs.Answer.{Passed, Attempted}
-use Rattle.search.specs.declared.Swept.{Swept}
-use Rattle.search.specs.declared.Swept.the-variants as swept
+use Rattle.search.specs.declared.sweep.Swept.{Swept}
+use Rattle.search.specs.declared.sweep.Swept.the-variants as swept
 use Rattle.search.specs.declared.Searched.the-variants as searched
 
 -- ---- the stage count

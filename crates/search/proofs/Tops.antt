@@ -22,7 +22,7 @@ use Rattle.descent.specs.Descent.{tell, Wrote, Ready, Done, below}
 use Rattle.search.specs.Sweep.{Clear, outcomeOf, SweptIs, Ranged}
 use Rattle.descent.specs.declared.Found.{Found}
 use Rattle.descent.specs.declared.Found.the-variants.{All, Spent, Nothing}
-use Rattle.search.specs.declared.Swept.the-variants as swept
+use Rattle.search.specs.declared.sweep.Swept.the-variants as swept
 use Rattle.descent.proofs.Counting.{answer-run}
 
 -- ---- the intervals that are left

@@ -8,8 +8,8 @@ use Rattle.model.specs.Loop.{Loop, size}
 use Rattle.model.specs.File.{loopOf, Accepted}
 use Rattle.model.specs.Bounds.{Lower}
 use Rattle.model.specs.Search.{stageCount, Request, Outcome, found, ended, sweep}
-use Rattle.search.specs.declared.Swept.{Swept}
-use Rattle.search.specs.declared.Swept.the-variants as swept
+use Rattle.search.specs.declared.sweep.Swept.{Swept}
+use Rattle.search.specs.declared.sweep.Swept.the-variants as swept
 
 -- the file is accepted, there is room for its n starts, and the first 4,096 rows are clear
 pub record Clear (f starts rows : List ℕ) (n least cap h : ℕ) : Type 0 where

@@ -1,8 +1,8 @@
 // The search of a file that has passed every check. Internal: asks for that.
 use crate::Searched;
 use crate::Solution;
-use crate::Swept;
 use crate::memory::write_list;
+use crate::sweep::Swept;
 use crate::sweep::sweep;
 use reservation::clear::clear_rows;
 use stages::stage_count;

@@ -10,13 +10,6 @@ use request::Asked;
 ghost use mathlib.Core.Path.{_≡_};
 ghost use Rattle.search.specs.Answer.{asUnread, asRefused, asUnbounded, Searches};
 
-// What the sweep over the intervals comes to: the interval at which a list is found, and what is left of the budget; none, and what is left; the interval at which the budget is spent.
-pub enum Swept {
-    Found(usize, usize),
-    Nothing(usize),
-    Spent(usize),
-}
-
 // A schedule: its interval, the two bounds, the stage count and the probes that it took. The starts are in the caller's list.
 pub struct Solution {
     pub interval: usize,

@@ -1,9 +1,15 @@
 // The sweep over the intervals. Internal: asks for an accepted file, and for rows of which the first 4,096 are clear.
-use crate::Swept;
 use descent::Found;
 use descent::choose;
 ghost use mathlib.Core.Path.{_≡_};
 ghost use Rattle.search.specs.Sweep.{Clear, SweptIs, Ranged};
+
+// What the sweep over the intervals comes to: the interval at which a list is found, and what is left of the budget; none, and what is left; the interval at which the budget is spent.
+pub enum Swept {
+    Found(usize, usize),
+    Nothing(usize),
+    Spent(usize),
+}
 
 // The intervals from `least` to the cap in turn, with one budget for all.
 pub fn sweep(

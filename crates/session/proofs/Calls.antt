@@ -1,21 +1,26 @@
 -- Every list of calls: demand 3. It rests on `Opened`, `Stepped` and `Run` alone, and not on code. Assumes nothing.
 use mathlib.Core.Path.{_≡_, refl, sym, ap, ap₂, _∙_, subst, subst₃}
+use mathlib.Core.Bool.{cond}
 use mathlib.Core.List.{List, [], _∷_, _++_}
 use mathlib.Core.Option.{Option, none, some}
-use Prim.Native.Nat.{ℕ, suc, _≤_}
+use Prim.Native.Nat.{ℕ, suc, _^_, _≤_, _<_}
 use native.Mathlib.Omega.{arith}
-use lib.ListN.{length, take, drop, length-map, length-append, length-drop}
+use lib.ListN.{length, getD, take, drop, length-map, length-append, length-drop}
 use lib.Seq.{length-take-le, take-at, drop-at}
 use Rattle.model.specs.Refusals.{Refusal, firstRefusal, Answer, answered, settled}
 use Rattle.model.specs.Loop.{size}
 use Rattle.model.specs.File.{loopOf}
 use Rattle.model.specs.Legality.{Placing, legalAt}
+use Rattle.model.specs.Table.{coveredAt, digitOf}
 use Rattle.model.specs.Session.{Setup, State, Call, checkpoint, rollback, done, numbered, placedIn, stateTable, openChecks, openFile, openRows, start, step, after, replies}
 use Rattle.model.specs.Session as model
 use Rattle.model.specs.Undo.{NoneGives, markedBy, placings, OrderOf, AllDone}
-use Rattle.model.proofs.Table.{length-table}
+use Rattle.model.proofs.File.{accepted-ok}
+use Rattle.model.proofs.Table.{length-table, bit-covered}
+use Rattle.model.proofs.Table.{bits-end as table-end}
 use Rattle.model.proofs.Undo.{back-to, back-pure, start-table, Good, replay}
 use Rattle.reservation.specs.Seats.{seats}
+use Rattle.reservation.proofs.Placings.{legal-digits}
 use Rattle.board.specs.Board.{setupAs}
 use Rattle.board.specs.Moves.{replyOf}
 use Rattle.session.specs.View.{setupOf, stateOf, fileOf, Valid, Stepped, Opened}
@@ -122,12 +127,32 @@ from-open {f} {ii} {h} {rows₀} {s} o =
 
 -- ---- what demand 3 says
 
+-- the placing that the model reads off a session is that of its array
+valid-placed : {s : Session} {rows : List ℕ} → Valid s rows → placedIn (stateOf s .starts) ≡ seats (s .starts .at)
+valid-placed {s} v =
+    let n : ℕ = size (loopOf (fileOf s)) in
+    seats-are n (s .starts .at) (omega (arith, few-operations (fileOf s) (v .board .accepted), v .board .sane .whole)) (v .board .sane .blank)
+
+-- what the bits of its rows say, with setup u
+abbrev BitsAre : Setup → Session → List ℕ → Type 0
+BitsAre u s rows =
+    ((slot row : ℕ) → row < u .ii → 1 ≤ slot → slot ≤ 24 → digitOf 2 (getD rows row 0) slot ≡ cond (coveredAt (u .loop) (u .ii) (placedIn (stateOf s .starts)) slot row) 1 0)
+    × ((row : ℕ) → row < u .ii → getD rows row 0 < 2 ^ 24)
+
+valid-bits : {s : Session} {rows : List ℕ} → Valid s rows → BitsAre (setupOf s) s rows
+valid-bits {s} {rows} v =
+    let l = loopOf (fileOf s) in
+    let d = legal-digits l (s .interval) (seats (s .starts .at)) (accepted-ok (fileOf s) (v .board .accepted)) (v .board .sane .fine) in (
+      λ slot row m lo hi. rw (valid-placed v) (bit-covered l (s .interval) (seats (s .starts .at)) rows (v .board .held) d slot row m lo hi),
+      table-end (s .interval) _ rows (v .board .held) d,
+    )
+
 -- the starts of a session that calls take can be placed again
 valid-good : {s : Session} {rows : List ℕ} → Valid s rows → Good (setupOf s) (stateOf s .starts)
 valid-good {s} v =
     let n : ℕ = size (loopOf (fileOf s)) in
     let room : n ≤ length (s .starts .at) = omega (arith, few-operations (fileOf s) (v .board .accepted), v .board .sane .whole) in
-    let same : placedIn (stateOf s .starts) ≡ seats (s .starts .at) = seats-are n (s .starts .at) room (v .board .sane .blank) in
+    let same = valid-placed v in
     record {
       whole = starts-length n (s .starts .at) room;
       near = λ o t e. v .board .sane .near o t (sym (ap (λ (f : Placing). f o) same) ∙ e);
@@ -176,10 +201,13 @@ placed-again {u} {s} os a q o r =
 pub demand3 : Demand3
 demand3 f ii h rows₀ rows₁ rows s₁ s cs rs o r =
     let a = ran (from-open o) r in
+    let b = subst (λ (u : Setup). BitsAre u s rows) (a .1 .setup) (valid-bits (a .1 .valid)) in
     record {
       answers = a .0;
       state = a .1 .state;
       table = a .1 .rows-are;
+      bits = b .0;
+      bits-end = b .1;
       setup = a .1 .setup;
       valid = a .1 .valid;
       back = λ m. went-back m cs (a .1);

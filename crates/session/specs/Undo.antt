@@ -1,10 +1,13 @@
 -- Demand 3: what every list of session calls comes to, as one statement. Assumes nothing.
 use mathlib.Core.Path.{_≡_}
+use mathlib.Core.Bool.{cond}
 use mathlib.Core.List.{List, [], _∷_, _++_}
-use Prim.Native.Nat.{ℕ, _≤_}
-use lib.ListN.{take, drop}
+use Prim.Native.Nat.{ℕ, _^_, _≤_, _<_}
+use lib.ListN.{getD, take, drop}
 use Rattle.model.specs.Refusals.{Answer, answered}
-use Rattle.model.specs.Session.{Call, checkpoint, rollback, done, numbered, stateTable, start, after, replies}
+use Rattle.model.specs.File.{loopOf}
+use Rattle.model.specs.Table.{coveredAt, digitOf}
+use Rattle.model.specs.Session.{Call, checkpoint, rollback, done, numbered, placedIn, stateTable, start, after, replies}
 use Rattle.model.specs.Session as model
 use Rattle.model.specs.Undo.{NoneGives, markedBy, placings, OrderOf, AllDone}
 use Rattle.board.specs.Board.{setupAs}
@@ -28,6 +31,10 @@ pub record Exact (f : List ℕ) (ii h : ℕ) (rows₀ : List ℕ) (cs : List Cal
   pub state : stateOf s ≡ after (setupAs f ii h) cs (start (setupAs f ii h))
   -- and the first ii rows; rows beyond are those that opening was given
   pub table : rows ≡ stateTable (setupAs f ii h) (after (setupAs f ii h) cs (start (setupAs f ii h))) ++ drop ii rows₀
+  -- in the first ii rows a bit is 1 exactly where a placed operation covers that slot and row, and no bit stands above those of the 24 slots
+  pub bits : (slot row : ℕ) → row < ii → 1 ≤ slot → slot ≤ 24
+      → digitOf 2 (getD rows row 0) slot ≡ cond (coveredAt (loopOf f) ii (placedIn (stateOf s .starts)) slot row) 1 0
+  pub bits-end : (row : ℕ) → row < ii → getD rows row 0 < 2 ^ 24
   -- the file, the interval and the horizon are those of the opening, and the session is one that calls take
   pub setup : setupOf s ≡ setupAs f ii h
   pub valid : Valid s rows

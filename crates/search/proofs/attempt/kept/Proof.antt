@@ -2,7 +2,7 @@
 use borrow.Author.Needs.{needs}
 use mathlib.Core.Path.{_≡_, sym, ap}
 use Rattle.search.specs.Sweep.{keptOf}
-use Rattle.search.specs.declared.Swept.{Swept}
+use Rattle.search.specs.declared.sweep.Swept.{Swept}
 use Rattle.search.proofs.attempt.kept.Statement.{statement}
 use Rattle.search.proofs.attempt.kept.Tie as tie
 
