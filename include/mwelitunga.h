@@ -26,6 +26,9 @@
 extern "C" {
 #endif
 
+/* The version of the library and of the program. */
+#define MWELITUNGA_VERSION "0.1.0"
+
 /* The largest loop file in bytes, and the most operations that a loop has. */
 #define MW_FILE_MOST 1690
 #define MW_OPERATIONS_MOST 64
