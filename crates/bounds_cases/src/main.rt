@@ -5,8 +5,8 @@ mod random;
 
 use bounds::LowerBounds;
 use std::num::wrapping_add_usize;
-use trial::drawn::byte;
 use trial::file::first;
+use trial::file::put;
 
 // `: resource R recurrence B`, or `: refused N at D`.
 fn print(found: LowerBounds) {
@@ -26,13 +26,6 @@ fn print(found: LowerBounds) {
 // The bounds of the first bytes.
 fn answer(file: &[u8; 2000], len: usize) {
     print(bounds::bounds(first(file, len)));
-}
-
-// Puts a byte, where the array has the place.
-fn put(file: &mut [u8; 2000], at: usize, v: usize) {
-    if at < 2000 {
-        file[at] = byte(v);
-    }
 }
 
 // Puts so many bytes from `to` on, whose numbers stand in the line from `at` on; the place behind them.

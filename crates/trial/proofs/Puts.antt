@@ -27,26 +27,26 @@ put-file n old {k} {r} {new} {bytes} e b p =
     let same : bytes ≡ loopFile k = b ∙ ap loopFile (sym e) in
     (p .0 ∙ ap length same, p .1 ∙ ap (sets old 0) same)
 
--- k is none of the n numbers behind m
-abbrev Passed : ℕ → ℕ → ℕ → Type 0
-Passed m zero k = Unit
-Passed m (suc n) k = Passed m n k × (k ≡ suc (n + m) → ⊥)
+-- k is none of the numbers from 1 to n
+abbrev Passed : ℕ → ℕ → Type 0
+Passed zero k = Unit
+Passed (suc n) k = Passed n k × (k ≡ suc n → ⊥)
 
--- so it is beyond them, where it is above m
-pub beyond : (m n k : ℕ) → Passed m n k → m < k → n + m < k
-beyond m zero k p h = omega arith
-beyond m (suc n) k p h =
-    let l : n + m < k = beyond m n k (p .0) h in
-    let e : k ≡ suc (n + m) → ⊥ = p .1 in
+-- so it is beyond them, or 0
+beyond : (n k : ℕ) → Passed n k → 0 < k → n < k
+beyond zero k p h = h
+beyond (suc n) k p h =
+    let l : n < k = beyond n k (p .0) h in
+    let e : k ≡ suc n → ⊥ = p .1 in
     omega arith
 
 -- a number that no loop has: nothing is put
-none-there : (k : ℕ) → (0 < k → 7 < k) → Passed 7 7 k → Dec (0 < k) → getD files k [] ≡ []
-none-there k h p (yes l) = List·getD-eq-default files [] {n = k} (beyond 7 7 k p (h l))
-none-there k h p (no g) = let e : k ≡ 0 = omega arith in ap (λ (n : ℕ). getD files n []) e
+none-there : (k : ℕ) → Passed 14 k → Dec (0 < k) → getD files k [] ≡ []
+none-there k p (yes l) = List·getD-eq-default files [] {n = k} (beyond 14 k p l)
+none-there k p (no g) = let e : k ≡ 0 = omega arith in ap (λ (n : ℕ). getD files n []) e
 
-pub no-file : (k : ℕ) (old : List ℕ) → (0 < k → 7 < k) → Passed 7 7 k → (0 ≡ length (loopFile k)) × (old ≡ sets old 0 (loopFile k))
+pub no-file : (k : ℕ) (old : List ℕ) → Passed 14 k → (0 ≡ length (loopFile k)) × (old ≡ sets old 0 (loopFile k))
 unfolding loopFile
-no-file k old h p =
-    let none : getD files k [] ≡ [] = none-there k h p (decLt 0 k) in
+no-file k old p =
+    let none : getD files k [] ≡ [] = none-there k p (decLt 0 k) in
     (ap length (sym none), ap (sets old 0) (sym none))

@@ -6,14 +6,17 @@ use crate::drawn::field;
 use crate::drawn::latency;
 use crate::drawn::least;
 ghost use mathlib.Core.Path.{_≡_};
-ghost use Prim.Native.Nat.{_≤_};
+ghost use Prim.Native.Nat.{_%_, _≤_};
 ghost use lib.ListN.{take};
+ghost use Rattle.trial.specs.Loops.{changed};
 
 // The head and the entries, without the offsets and lengths that a loop decides on.
 const HEAD: [u8; 26] = *b"\x01\x03OPER\x1a\x00\x00\x00USES\x00\x00\x00\x00DEPS\x00\x00\x00\x00";
 
 // The lowest byte of v at a place, where the array has it.
-fn put(file: &mut [u8; 2000], at: usize, v: usize) {
+pub fn put(file: &mut [u8; 2000], at: usize, v: usize)
+    ensures { λ _. ⌜ now (file .exit) ≡ changed at (v % 256) (now (file .entry)) ⌝ }
+{
     if at < 2000 {
         file[at] = byte(v);
     }

@@ -1,6 +1,6 @@
 // The worked loops, as files.
 ghost use mathlib.Core.Path.{_≡_};
-ghost use Prim.Native.Nat.{_≤_, _<_};
+ghost use Prim.Native.Nat.{_≤_};
 ghost use lib.ListN.{length};
 ghost use lib.Seq.{sets};
 ghost use Rattle.trial.specs.Loops.{loopFile, changed};
@@ -130,17 +130,6 @@ pub fn put_loop(file: &mut [u8; 2000], k: usize) -> usize
         5 => put(file, &LOOP_D),
         6 => put(file, &LOOP_F),
         7 => put(file, &LOOP_G),
-        _ => put_later(file, k),
-    }
-}
-
-// The same for the numbers from 8 on, apart since a match of half as many arms checks faster.
-fn put_later(file: &mut [u8; 2000], k: usize) -> usize
-    requires { ⌜ (0 < k → 7 < k) ⌝ }
-    ensures { λ r. ⌜ r ≡ length (loopFile k) ⌝ }
-    ensures { λ r. ⌜ now (file .exit) ≡ sets (now (file .entry)) 0 (loopFile k) ⌝ }
-{
-    match k {
         8 => put(file, &LONG),
         9 => put(file, &WRAP),
         10 => put(file, &PAIRS),

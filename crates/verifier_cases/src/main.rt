@@ -5,6 +5,7 @@ mod random;
 use trial::drawn::byte;
 use trial::drawn::least;
 use trial::file::first;
+use trial::loops::put_changed;
 use verifier::Verdict;
 
 // `: legal`, `: dependence E`, `: conflict A B`, or `: refused N at D`.
@@ -50,9 +51,7 @@ fn verified(file: &[u8], q: &[usize; 10]) {
 // The same with the file of the case.
 fn of_file(q: &[usize; 10]) {
     let mut file = [0u8; 2000];
-    trial::loops::put_loop(&mut file, q[0]);
-    let at = least(q[2], 1999);
-    file[at] = byte(q[3]);
+    put_changed(&mut file, q[0], q[2], byte(q[3]));
     verified(first(&file, q[1]), q);
 }
 

@@ -1,8 +1,8 @@
--- `loops::put_loop` meets its contract: each arm puts the file of its number (`put-file`), and any other number is not one of these. Assumes nothing.
+-- `loops::put_loop` meets its contract: each arm puts the file of its number (`put-file`), and any other number has none. Assumes nothing.
 use mathlib.Core.Path.{refl}
-use Rattle.trial.specs.Loops.{loopFile}
-use Rattle.trial.proofs.Puts.{put-file, beyond}
 use native.Mathlib.Omega.{arith}
+use Rattle.trial.specs.Loops.{loopFile}
+use Rattle.trial.proofs.Puts.{put-file, no-file}
 use Rattle.trial.proofs.loops.put_loop.Statement.{statement}
 use Rattle.trial.proofs.loops.put_loop.Tie as tie
 
@@ -48,8 +48,47 @@ slice-aggregate-put-7 c = refl
 put-requires-7 : tie.Need-put-requires-7
 put-requires-7 c κs = omega arith
 
-put-later-requires : tie.Need-put-later-requires
-put-later-requires c κs = λ h. beyond 0 7 (c .before .before .args .k) (c .before .match .rest) h
+slice-aggregate-put-8 : tie.Need-slice-aggregate-put-8
+slice-aggregate-put-8 c = refl
+
+put-requires-8 : tie.Need-put-requires-8
+put-requires-8 c κs = omega arith
+
+slice-aggregate-put-9 : tie.Need-slice-aggregate-put-9
+slice-aggregate-put-9 c = refl
+
+put-requires-9 : tie.Need-put-requires-9
+put-requires-9 c κs = omega arith
+
+slice-aggregate-put-10 : tie.Need-slice-aggregate-put-10
+slice-aggregate-put-10 c = refl
+
+put-requires-10 : tie.Need-put-requires-10
+put-requires-10 c κs = omega arith
+
+slice-aggregate-put-11 : tie.Need-slice-aggregate-put-11
+slice-aggregate-put-11 c = refl
+
+put-requires-11 : tie.Need-put-requires-11
+put-requires-11 c κs = omega arith
+
+slice-aggregate-put-12 : tie.Need-slice-aggregate-put-12
+slice-aggregate-put-12 c = refl
+
+put-requires-12 : tie.Need-put-requires-12
+put-requires-12 c κs = omega arith
+
+slice-aggregate-put-13 : tie.Need-slice-aggregate-put-13
+slice-aggregate-put-13 c = refl
+
+put-requires-13 : tie.Need-put-requires-13
+put-requires-13 c κs = omega arith
+
+slice-aggregate-put-14 : tie.Need-slice-aggregate-put-14
+slice-aggregate-put-14 c = refl
+
+put-requires-14 : tie.Need-put-requires-14
+put-requires-14 c κs = omega arith
 
 returns : tie.Need-returns
 unfolding loopFile
@@ -80,7 +119,35 @@ unfolding loopFile
 returns-7 c = put-file 7 (c .before .before .before .before .args .file .now) (c .before .before .before .match .keys7) refl (c .put7 .ensures)
 
 returns-8 : tie.Need-returns-8
-returns-8 c = c .put-later .ensures
+unfolding loopFile
+returns-8 c = put-file 8 (c .before .before .before .before .args .file .now) (c .before .before .before .match .keys8) refl (c .put8 .ensures)
+
+returns-9 : tie.Need-returns-9
+unfolding loopFile
+returns-9 c = put-file 9 (c .before .before .before .before .args .file .now) (c .before .before .before .match .keys9) refl (c .put9 .ensures)
+
+returns-10 : tie.Need-returns-10
+unfolding loopFile
+returns-10 c = put-file 10 (c .before .before .before .before .args .file .now) (c .before .before .before .match .keys10) refl (c .put10 .ensures)
+
+returns-11 : tie.Need-returns-11
+unfolding loopFile
+returns-11 c = put-file 11 (c .before .before .before .before .args .file .now) (c .before .before .before .match .keys11) refl (c .put11 .ensures)
+
+returns-12 : tie.Need-returns-12
+unfolding loopFile
+returns-12 c = put-file 12 (c .before .before .before .before .args .file .now) (c .before .before .before .match .keys12) refl (c .put12 .ensures)
+
+returns-13 : tie.Need-returns-13
+unfolding loopFile
+returns-13 c = put-file 13 (c .before .before .before .before .args .file .now) (c .before .before .before .match .keys13) refl (c .put13 .ensures)
+
+returns-14 : tie.Need-returns-14
+unfolding loopFile
+returns-14 c = put-file 14 (c .before .before .before .before .args .file .now) (c .before .before .before .match .keys14) refl (c .put14 .ensures)
+
+returns-15 : tie.Need-returns-15
+returns-15 c = no-file (c .before .args .k) (c .before .args .file .now) (c .match .rest)
 
 pub put-loop-spec : {M : Type 1} → statement M
 put-loop-spec =
@@ -100,7 +167,20 @@ put-loop-spec =
     put-requires-6
     slice-aggregate-put-7
     put-requires-7
-    put-later-requires
+    slice-aggregate-put-8
+    put-requires-8
+    slice-aggregate-put-9
+    put-requires-9
+    slice-aggregate-put-10
+    put-requires-10
+    slice-aggregate-put-11
+    put-requires-11
+    slice-aggregate-put-12
+    put-requires-12
+    slice-aggregate-put-13
+    put-requires-13
+    slice-aggregate-put-14
+    put-requires-14
     returns
     returns-2
     returns-3
@@ -108,4 +188,11 @@ put-loop-spec =
     returns-5
     returns-6
     returns-7
-    returns-8)
+    returns-8
+    returns-9
+    returns-10
+    returns-11
+    returns-12
+    returns-13
+    returns-14
+    returns-15)
