@@ -19,7 +19,7 @@ use Rattle.model.proofs.File.{accepted-ok}
 use Rattle.model.proofs.Legality.{Part, legal-part, legal-place, place-same}
 use Rattle.reservation.specs.Rows.{overUses, withBit, lessBit, UsesIn}
 use Rattle.reservation.specs.Seats.{seatOf, seats}
-use Rattle.reservation.proofs.Over.{uses-rest}
+use Rattle.reservation.proofs.RowUpdates.{uses-rest}
 use Rattle.reservation.proofs.Placings.{legal-digits, fits-conflict, reserve-place, reserve-uses, release-place, release-uses}
 use Rattle.reservation.proofs.Seats.{seat-some, seat-none}
 use Rattle.board.specs.Board.{Sane, Board, IsPut}

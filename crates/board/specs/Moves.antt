@@ -6,7 +6,7 @@ use mathlib.Core.Logic.{_⊎_}
 use Prim.Native.Nat.{ℕ, _^_, _<_}
 use lib.Dec.{eqb, ltb}
 use lib.ListN.{length, getD, drop}
-use Rattle.model.specs.Lists.{upFrom, any, sumOf}
+use Rattle.model.specs.Lists.{upFrom, anyOf, sumOf}
 use Rattle.model.specs.Refusals.{Refusal, Answer, answered, refused}
 use Rattle.model.specs.Loop.{Loop, depAt, size}
 use Rattle.model.specs.File.{loopOf}
@@ -44,7 +44,7 @@ Removed f ii o xs rows xs′ rows′ r = (h : ℕ) → Board f ii h xs rows → 
 
 -- one of the first k dependences has p at an end, and operation o at t breaks it
 unfoldable pub hitBy : Loop → ℕ → Placing → (o t k p : ℕ) → Bool
-hitBy l ii f o t k p = any (λ e. touches p (depAt l e) && breaks ii f o t (depAt l e)) (upFrom 0 k)
+hitBy l ii f o t k p = anyOf (λ e. touches p (depAt l e) && breaks ii f o t (depAt l e)) (upFrom 0 k)
 
 -- the mark of operation p says so, if p is another one
 abbrev pub HitIs : Loop → (ii o t p : ℕ) → (xs hits : List ℕ) → Type 0

@@ -12,7 +12,7 @@ use lib.Signed.{_<ℤ_}
 use Rattle.model.specs.Integers.{plus}
 use Rattle.model.specs.Loop.{Loop, size, depAt, LoopOk}
 use Rattle.model.specs.Bounds.{Feasible, RecurrenceBound, Goes, Closed, delayOf, distanceOf, Heavy, Stuck}
-use Rattle.model.specs.Search.{ceilDiv}
+use Rattle.model.specs.Integers.{ceilDiv}
 use Rattle.model.proofs.Signed.{Is, is-pos, of-lt, lt-of, plus-le}
 use Rattle.model.proofs.Bounds.{Inside, light, refutes, stuck-never, plusOf, minusOf, delay-parts}
 use Rattle.bounds.specs.Walks.{Refuted}

@@ -4,8 +4,8 @@ pub mod Rounds
 pub mod Trail
 pub mod Values
 pub mod Bound
-pub mod Held
-pub mod Halving
+pub mod Arrays
+pub mod Bisection
 pub mod AllUses
 pub mod Slots
-pub mod Needed
+pub mod Necessity

@@ -12,7 +12,7 @@ use native.Mathlib.Omega.{arith}
 use borrow.Author.Tests.{leb-true, leb-false, ltb-true, ltb-false, eq-eqb, ne-eqb}
 use lib.Dec.{eqb, leb, ltb}
 use lib.ListN.{length, getD}
-use Rattle.model.specs.Lists.{upFrom, count, sumOf}
+use Rattle.model.specs.Lists.{upFrom, countIf, sumOf}
 use Rattle.model.specs.Loop.{Use, Op, Loop, noUse, noOp, size, opAt, useAt, UseOk, OpOk, LoopOk}
 use Rattle.model.specs.Legality.{placed, Cell, sameCell, covers, cellsIn, footprint, meets, apart, legalAt, legal}
 use Rattle.model.specs.Table.{countOf, opCells, cellsOf}
@@ -20,7 +20,7 @@ use Rattle.model.specs.Bounds.{totalOn, resourceBound}
 use Rattle.model.proofs.Lists.{and-right, count-flatMap, sum-same, sum-none, sum-around, sum-places}
 use Rattle.model.proofs.Table.{count-cell-same, count-cell-slot, count-cell-row}
 use Rattle.model.proofs.Conflicts.{apart-once}
-use Rattle.model.proofs.Placed.{placed-in}
+use Rattle.model.proofs.StartLists.{placed-in}
 use Rattle.model.proofs.Sums.{sum-swap, sum-next, sum-most, max-most}
 use Rattle.bounds.proofs.AllUses.{onSlot}
 
@@ -88,7 +88,7 @@ module _ (ii s : ℕ) where
 
   -- a cycle has a cell for each use that covers it
   rows-cycle : (row k : ℕ) → row < ii → (us : List Use) → onRows (cellsIn row k us) ≡ sumOf (adds k) us
-  unfolding cellsIn count sumOf
+  unfolding cellsIn countIf sumOf
   rows-cycle row k h [] = sum-none (λ r. 0) 0 ii (λ r a b. refl)
   rows-cycle row k h (u ∷ us) = pick (covers k u) (rows-cycle row k h us)
     where

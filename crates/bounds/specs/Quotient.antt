@@ -4,7 +4,7 @@ use Prim.Native.Nat.{ℕ}
 use Rattle.model.specs.Integers.{plus}
 use Rattle.model.specs.Loop.{Loop}
 use Rattle.model.specs.Bounds.{delayOf, distanceOf}
-use Rattle.model.specs.Search.{ceilDiv}
+use Rattle.model.specs.Integers.{ceilDiv}
 
 -- total delay divided by total distance, rounded up; 0 where the delay is below 0
 abbrev pub quotientUp : Loop → List ℕ → ℕ

@@ -54,8 +54,8 @@ abbrev pub nats : ℕ → List ℤ → List ℕ
 nats n x = map plus (take n x)
 
 -- no value is above top
-abbrev pub Below : List ℕ → ℕ → Type 0
-Below xs top = (i : ℕ) → getD xs i 0 ≤ top
+abbrev pub AtMost : List ℕ → ℕ → Type 0
+AtMost xs top = (i : ℕ) → getD xs i 0 ≤ top
 
 -- x[at] raised to v, and whether it rose
 pub record Raised (x x′ : List ℤ) (at : ℕ) (v : ℤ) (rose : Bool) : Type 0 where
@@ -66,7 +66,7 @@ pub record Raised (x x′ : List ℤ) (at : ℕ) (v : ℤ) (rose : Bool) : Type 
 pub record SmallIn (n top : ℕ) (x : List ℤ) : Type 0 where
   pub natural : Holds n x (nats n x)
   pub count : length (nats n x) ≡ n
-  pub low : Below (nats n x) top
+  pub low : AtMost (nats n x) top
 
 -- a round of the values, and whether one changed
 pub record Rounded (l : Loop) (ii : ℕ) (x x′ : List ℤ) (changed : Bool) : Type 0 where

@@ -1,3 +1,3 @@
 -- Hand-written laws of the crate that belong to no one function.
 pub mod Lines
-pub mod Scanning
+pub mod Scans

@@ -11,10 +11,10 @@ use lib.ListN.{length, getD, take}
 use lib.Seq.{length-take-le}
 use borrow.Author.Tests.{ltb-true, leb-true, lt-ltb, le-leb, eq-eqb, ne-eqb, not-true}
 use Rattle.model.specs.Integers.{plus, minus}
-use Rattle.model.specs.Lists.{upFrom, any}
+use Rattle.model.specs.Lists.{upFrom, anyOf}
 use Rattle.model.specs.Loop.{Dep, Loop, depAt}
 use Rattle.model.specs.Legality.{placed, holds, breaks}
-use Rattle.model.proofs.Placed.{placed-after, placed-take}
+use Rattle.model.proofs.StartLists.{placed-after, placed-take}
 use Rattle.model.proofs.Lists.{and-left, and-right, and-both, same-true, upFrom-split, any-append}
 use Rattle.model.proofs.Signed.{leb-same, holds-parts}
 use Rattle.descent.specs.Span.{inside, breaksAt, allowed, EarliestIs, TooLateIs, NarrowedIs, WindowIs}
@@ -150,11 +150,11 @@ module _ {l : Loop} {ii e op : ℕ} {starts : List ℕ} {from to x y : ℕ} (k :
 module _ (l : Loop) (ii : ℕ) (xs : List ℕ) (h : ℕ) where
   -- one dependence more
   allowed-next : (k s : ℕ) → allowed l ii xs (k + 1) s ≡ (allowed l ii xs k s && not (breaksAt l ii xs s k))
-  unfolding allowed any upFrom
+  unfolding allowed anyOf upFrom
   allowed-next k s =
-      ap (λ (ks : List ℕ). not (any (breaksAt l ii xs s) ks)) (upFrom-split 0 k 1)
+      ap (λ (ks : List ℕ). not (anyOf (breaksAt l ii xs s) ks)) (upFrom-split 0 k 1)
       ∙ ap not (any-append (breaksAt l ii xs s) (upFrom 0 k) (upFrom (0 + k) 1))
-      ∙ rw (zero-add k) (not-or (any (breaksAt l ii xs s) (upFrom 0 k)) (breaksAt l ii xs s k))
+      ∙ rw (zero-add k) (not-or (anyOf (breaksAt l ii xs s) (upFrom 0 k)) (breaksAt l ii xs s k))
     where
       -- the negation of an "or"
       not-or : (a b : Bool) → not (a || (b || false)) ≡ (not a && not b)
@@ -163,7 +163,7 @@ module _ (l : Loop) (ii : ℕ) (xs : List ℕ) (h : ℕ) where
 
   -- before any dependence, the window has the starts below the horizon
   pub window-first : WindowIs l ii xs h 0 0 h
-  unfolding allowed any upFrom
+  unfolding allowed anyOf upFrom
   window-first s = rw (le-leb 0 s (omega arith), and-true (ltb s h))
 
   -- narrowed by dependence k, it is the window of one more

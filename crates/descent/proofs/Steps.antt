@@ -14,21 +14,21 @@ use lib.ListN.{length, take, getD, set, length-set}
 use lib.Seq.{append-snoc, take-suc-set, take-take, take-set-le, length-take-le, getD-take, getD-set-same, getD-set-other}
 use Rattle.model.specs.Loop.{Op, Loop, size, opAt, firstUseOf, LoopOk}
 use Rattle.model.specs.File.{loopOf}
-use Rattle.model.specs.Legality.{Placing, placed, legalAt, legal, placeAt, fitsAt}
+use Rattle.model.specs.Legality.{Placing, placed, legalAt, legal, placeAt, conflicts, fitsAt}
 use Rattle.model.specs.Table.{cellsOf, IsTable, Digits}
 use Rattle.model.proofs.Lists.{false-not, and-both}
 use Rattle.model.proofs.File.{accepted-ok}
-use Rattle.model.proofs.Placed.{placed-after, placed-snoc}
+use Rattle.model.proofs.StartLists.{placed-after, placed-snoc}
 use Rattle.model.proofs.Legality.{legal-prefix, legal-place, legal-snoc}
 use Rattle.reservation.specs.Rows.{overUses, withBit, lessBit, UsesIn}
 use Rattle.reservation.specs.Place.{firstTaken}
-use Rattle.reservation.proofs.Placings.{conflicts, legal-digits, fits-tests, fits-conflict, reserve-place, release-uses, free-conflict, conflict-free, reserve-uses, restored}
+use Rattle.reservation.proofs.Placings.{legal-digits, fits-tests, fits-conflict, reserve-place, release-uses, free-conflict, conflict-free, reserve-uses, reserve-release}
 use Rattle.descent.specs.Span.{inside, allowed, WindowIs}
 use Rattle.descent.specs.Tree.{under, treeAnswer, treeProbes, Res, broke, all, no-more, rest, run, runO}
 use Rattle.descent.specs.Descent.{tell, Wrote, Ready, Done, below, branch}
 use Rattle.descent.specs.declared.Found.{Found}
 use Rattle.descent.specs.declared.Found.the-variants.{All, Spent, Nothing}
-use Rattle.descent.proofs.Counting.{after, run-leaf, run-unfit, run-step, run-broke, run-end, run-all, run-skip}
+use Rattle.descent.proofs.Runs.{after, run-leaf, run-unfit, run-step, run-broke, run-end, run-all, run-skip}
 
 -- ---- a start that does not fit
 
@@ -103,7 +103,7 @@ module _ (s n : ℕ) (p starts : List ℕ) (f : ℕ → Res) (whole : Res) where
 -- ---- the turns of `choose`
 
 -- the invariant of its loop: what is left to do comes to what the whole comes to
-pub record Turn (f starts₀ rows₀ : List ℕ) (op n ii h left : ℕ) (starts rows : List ℕ) (purse s : ℕ) : Type 0 where
+pub record AtProbe (f starts₀ rows₀ : List ℕ) (op n ii h left : ℕ) (starts rows : List ℕ) (purse s : ℕ) : Type 0 where
   pub rows-same : rows ≡ rows₀
   pub kept : take op starts ≡ take op starts₀
   pub same-length : length starts ≡ length starts₀
@@ -112,16 +112,16 @@ pub record Turn (f starts₀ rows₀ : List ℕ) (op n ii h left : ℕ) (starts 
   pub to-come : runO (under (legal (loopOf f) ii) (take op starts₀)) h (n - op - 1) s (h - s) purse ≡ below f starts₀ op n ii h left
 
 -- the three answers of a start that was tried
-pub record Turned (f starts₀ rows₀ : List ℕ) (op n ii h left : ℕ) (later rows : List ℕ) (r : Found) (s : ℕ) : Type 0 where
+pub record AfterProbe (f starts₀ rows₀ : List ℕ) (op n ii h left : ℕ) (later rows : List ℕ) (r : Found) (s : ℕ) : Type 0 where
   pub same : rows ≡ rows₀
   pub same-length : length later ≡ length starts₀
   pub if-all : (k : ℕ) → r ≡ All k → Done (below f starts₀ op n ii h left) n op (take op starts₀) starts₀ later (All k)
   pub if-spent : r ≡ Spent → Done (below f starts₀ op n ii h left) n op (take op starts₀) starts₀ later Spent
-  pub if-none : (k : ℕ) → r ≡ Nothing k → Turn f starts₀ rows₀ op n ii h left later rows k (s + 1)
+  pub if-none : (k : ℕ) → r ≡ Nothing k → AtProbe f starts₀ rows₀ op n ii h left later rows k (s + 1)
 
 -- a turn, of equal lists and an equal purse
 pub same-turn : {f starts₀ rows₀ : List ℕ} {op n ii h left : ℕ} {starts starts' rows rows' : List ℕ} {purse purse' s : ℕ} → starts' ≡ starts → rows' ≡ rows → purse' ≡ purse
-    → Turn f starts₀ rows₀ op n ii h left starts rows purse s → Turn f starts₀ rows₀ op n ii h left starts' rows' purse' s
+    → AtProbe f starts₀ rows₀ op n ii h left starts rows purse s → AtProbe f starts₀ rows₀ op n ii h left starts' rows' purse' s
 same-turn e g k t = rw (e, g, k) t
 
 -- the first op starts are op many
@@ -145,7 +145,7 @@ module _ {f starts₀ rows₀ : List ℕ} {op n ii h : ℕ} (ready : Ready f sta
       record { says = rw r; list = rw r (ap (λ (k : ℕ). take k starts₀) (sym e) ∙ sym (append-nil (take op starts₀))); kept = refl; same-length = refl }
 
   -- where the loop begins
-  pub begins : {left : ℕ} → op < n → Turn f starts₀ rows₀ op n ii h left starts₀ rows₀ left 0
+  pub begins : {left : ℕ} → op < n → AtProbe f starts₀ rows₀ op n ii h left starts₀ rows₀ left 0
   begins {left} l =
       let z : n - op ≡ suc (n - op - 1) = omega arith in
       record {
@@ -159,7 +159,7 @@ module _ {f starts₀ rows₀ : List ℕ} {op n ii h : ℕ} (ready : Ready f sta
             ∙ ap (λ (m : ℕ). run L h m left) (sym z);
       }
 
-  module _ {left : ℕ} {starts rows : List ℕ} {purse s : ℕ} (turn : Turn f starts₀ rows₀ op n ii h left starts rows purse s) where
+  module _ {left : ℕ} {starts rows : List ℕ} {purse s : ℕ} (turn : AtProbe f starts₀ rows₀ op n ii h left starts rows purse s) where
     -- where it ends
     pub ends : h ≤ s → Done (below f starts₀ op n ii h left) n op (take op starts₀) starts₀ starts (Nothing purse)
     ends l =
@@ -203,7 +203,7 @@ module _ {f starts₀ rows₀ : List ℕ} {op n ii h : ℕ} (ready : Ready f sta
           (still, o, l, ap (λ (xs : List ℕ). allowed (loopOf f) ii xs k s) (turn .kept) ∙ in-window (loopOf f) ii (take op starts₀) h k from to s w l i j, e)
 
       -- one outside it takes its probe
-      pub skips : (purse ≡ 0 → ⊥) → (s < from) ⊎ (to ≤ s) → Turn f starts₀ rows₀ op n ii h left starts rows (purse - 1) (s + 1)
+      pub skips : (purse ≡ 0 → ⊥) → (s < from) ⊎ (to ≤ s) → AtProbe f starts₀ rows₀ op n ii h left starts rows (purse - 1) (s + 1)
       skips more i =
           let in-loop : length (take op starts₀) < size (loopOf f) = omega (arith, prefix-length ready, ready .is-size) in
           let barred : allowed (loopOf f) ii (take op starts₀) (length (loopOf f .deps)) s ≡ false = off-window (loopOf f) ii (take op starts₀) h (length (loopOf f .deps)) from to s w l i in
@@ -249,7 +249,7 @@ module _ {f starts₀ rows₀ : List ℕ} {op n ii h : ℕ} (ready : Ready f sta
           record { says = q .0; list = q .1; kept = tried .kept ∙ turn .kept; same-length = tried .same-length ∙ turn .same-length }
 
       -- there is no list
-      goes-on : {rows₁ : List ℕ} (k : ℕ) → rows₁ ≡ rows → r ≡ Nothing k → Turn f starts₀ rows₀ op n ii h left later rows₁ k (s + 1)
+      goes-on : {rows₁ : List ℕ} (k : ℕ) → rows₁ ≡ rows → r ≡ Nothing k → AtProbe f starts₀ rows₀ op n ii h left later rows₁ k (s + 1)
       goes-on k same e =
           let t : tell (branch f starts op n ii h s (purse - 1)) ≡ Nothing k = sym (tried .says) ∙ e in
           record {
@@ -264,7 +264,7 @@ module _ {f starts₀ rows₀ : List ℕ} {op n ii h : ℕ} (ready : Ready f sta
           }
 
       -- the three together
-      pub turned : {rows₁ : List ℕ} → rows₁ ≡ rows → Turned f starts₀ rows₀ op n ii h left later rows₁ r s
+      pub turned : {rows₁ : List ℕ} → rows₁ ≡ rows → AfterProbe f starts₀ rows₀ op n ii h left later rows₁ r s
       turned same = record {
         same = same ∙ turn .rows-same;
         same-length = tried .same-length ∙ turn .same-length;
@@ -395,7 +395,7 @@ module _ {f starts rows : List ℕ} {op n ii h s first : ℕ}
 
       -- which gives the first rows back
       pub given-back : {rows₃ : List ℕ} → rows₃ ≡ overUses lessBit ii s (p .uses) (length (p .uses)) rows₂ → rows₃ ≡ rows
-      given-back e = e ∙ ap (overUses lessBit ii s (p .uses) (length (p .uses))) (same ∙ put) ∙ restored ii s p (loop-ok .op-ok op op-in) (ready .some) (cellsOf (loopOf f) ii placing) rows (ready .held)
+      given-back e = e ∙ ap (overUses lessBit ii s (p .uses) (length (p .uses))) (same ∙ put) ∙ reserve-release ii s p (loop-ok .op-ok op op-in) (ready .some) (cellsOf (loopOf f) ii placing) rows (ready .held)
 
   -- what the operations after it come to is what its branch comes to
   pub back : (b : ℕ) {later : List ℕ} {r : Found} → Done (below f (set starts op s) (op + 1) n ii h b) n (op + 1) (take (op + 1) (set starts op s)) (set starts op s) later r

@@ -11,17 +11,13 @@ use native.Mathlib.Omega.{arith}
 use lib.Dec.{eqb, ltb}
 use lib.ListN.{length, getD}
 use borrow.Author.Tests.{eqb-true, eq-eqb, ne-eqb, lt-ltb, le-ltb}
-use Rattle.model.specs.Lists.{upFrom, any, first, count, sumOf}
+use Rattle.model.specs.Lists.{upFrom, Below, anyOf, first, countIf, sumOf}
 use Rattle.model.specs.Search.{words, whole, answer, notAfter}
 use Rattle.descent.specs.Tree.{tree, over}
-use Rattle.model.proofs.Lists.{and-left, and-right, and-both, or-false-left, or-false-right, any-map, first-later, none-first, count-flatMap, sum-none, sum-around, sum-some}
+use Rattle.model.proofs.Lists.{and-left, and-right, and-both, or-false-left, or-false-right, any-map, first-later, none-first, count-flatMap, sum-none, sum-around, sum-some, count-map, count-never}
 use Rattle.model.proofs.Firsts.{first-early, first-map}
 
 -- ---- lists of numbers
-
--- every number of q is below h
-abbrev pub Below : ℕ → List ℕ → Type 0
-Below h q = (i : ℕ) → i < length q → getD q i 0 < h
 
 -- with one number more in front, and without its first
 below-cons : (h x : ℕ) (q : List ℕ) → x < h → Below h q → Below h (x ∷ q)
@@ -57,18 +53,6 @@ eq-same p q e = ap (sameList p) (sym e) ∙ same-self p
 
 -- ---- counts, and what passes first
 
--- of a list put through f
-pub count-map : {A B : Type 0} (p : B → Bool) (f : A → B) (xs : List A) → count p (map f xs) ≡ count (λ x. p (f x)) xs
-unfolding count
-count-map p f [] = refl
-count-map p f (x ∷ xs) = ap (λ (n : ℕ). cond (p (f x)) 1 0 + n) (count-map p f xs)
-
--- a test that nothing passes
-count-never : {A : Type 0} (p : A → Bool) (xs : List A) → ((x : A) → p x ≡ false) → count p xs ≡ 0
-unfolding count
-count-never p [] h = refl
-count-never p (x ∷ xs) h = rw (h x, count-never p xs h)
-
 -- what is found first passes
 pub first-true : {A : Type 0} (p : A → Bool) (xs : List A) (a : A) → first p xs ≡ some a → p a ≡ true
 unfolding first
@@ -80,25 +64,25 @@ first-true p (x ∷ xs) a e = pick (p x) refl e (first-true p xs a)
     pick false q f ih = ih f
 
 -- what is found first is of the list
-first-counts : (p : List ℕ → Bool) (xs : List (List ℕ)) (a : List ℕ) → first p xs ≡ some a → 1 ≤ count (sameList a) xs
-unfolding first count
+first-counts : (p : List ℕ → Bool) (xs : List (List ℕ)) (a : List ℕ) → first p xs ≡ some a → 1 ≤ countIf (sameList a) xs
+unfolding first countIf
 first-counts p [] a e = let z : _≡_ {A = ℕ} 0 1 = cc in absurd (omega arith)
 first-counts p (x ∷ xs) a e = pick (p x) e (first-counts p xs a)
   where
-    pick : (b : Bool) → cond b (some x) (first p xs) ≡ some a → (first p xs ≡ some a → 1 ≤ count (sameList a) xs)
-        → 1 ≤ cond (sameList a x) 1 0 + count (sameList a) xs
+    pick : (b : Bool) → cond b (some x) (first p xs) ≡ some a → (first p xs ≡ some a → 1 ≤ countIf (sameList a) xs)
+        → 1 ≤ cond (sameList a x) 1 0 + countIf (sameList a) xs
     pick true f ih = let g : a ≡ x = cc in rw (eq-same a x g) (omega arith)
     pick false f ih = omega (arith, ih f)
 
 -- where nothing of a list passes, that which is counted in it does not
-counted-fails : (p : List ℕ → Bool) (xs : List (List ℕ)) (b : List ℕ) → 1 ≤ count (sameList b) xs → any p xs ≡ false → p b ≡ false
-unfolding any count
+counted-fails : (p : List ℕ → Bool) (xs : List (List ℕ)) (b : List ℕ) → 1 ≤ countIf (sameList b) xs → anyOf p xs ≡ false → p b ≡ false
+unfolding anyOf countIf
 counted-fails p [] b l e = absurd (omega arith)
 counted-fails p (x ∷ xs) b l e = pick (sameList b x) refl l (counted-fails p xs b)
   where
-    pick : (c : Bool) → sameList b x ≡ c → 1 ≤ cond c 1 0 + count (sameList b) xs → (1 ≤ count (sameList b) xs → any p xs ≡ false → p b ≡ false) → p b ≡ false
-    pick true q m ih = ap p (same-eq b x q) ∙ or-false-left (p x) (any p xs) e
-    pick false q m ih = ih (omega arith) (or-false-right (p x) (any p xs) e)
+    pick : (c : Bool) → sameList b x ≡ c → 1 ≤ cond c 1 0 + countIf (sameList b) xs → (1 ≤ countIf (sameList b) xs → anyOf p xs ≡ false → p b ≡ false) → p b ≡ false
+    pick true q m ih = ap p (same-eq b x q) ∙ or-false-left (p x) (anyOf p xs) e
+    pick false q m ih = ih (omega arith) (or-false-right (p x) (anyOf p xs) e)
 
 -- ---- words by their first number
 
@@ -113,12 +97,12 @@ words-over h n = refl
 
 -- how often q is among the words that begin with s
 abbrev share : ℕ → ℕ → List ℕ → ℕ → ℕ
-share h n q s = count (sameList q) (branch h n s)
+share h n q s = countIf (sameList q) (branch h n s)
 
 -- a list is among the words as often as among all branches together
-words-sum : (h n : ℕ) (q : List ℕ) → count (sameList q) (words h (suc n)) ≡ sumOf (share h n q) (upFrom 0 h)
+words-sum : (h n : ℕ) (q : List ℕ) → countIf (sameList q) (words h (suc n)) ≡ sumOf (share h n q) (upFrom 0 h)
 unfolding over
-words-sum h n q = ap (count (sameList q)) (words-over h n) ∙ count-flatMap (sameList q) (branch h n) (upFrom 0 h)
+words-sum h n q = ap (countIf (sameList q)) (words-over h n) ∙ count-flatMap (sameList q) (branch h n) (upFrom 0 h)
 
 -- the empty list is in no branch, a list that begins otherwise not in this one, and one that begins with x as often as its rest is behind x
 share-empty : (h n s : ℕ) → share h n [] s ≡ 0
@@ -129,10 +113,10 @@ share-other h n x s q ne =
     count-map (sameList (x ∷ q)) (s ∷_) (tree h n)
     ∙ count-never (λ w. sameList (x ∷ q) (s ∷ w)) (tree h n) (λ w. ap (λ (b : Bool). b && sameList q w) (ne-eqb x s ne))
 
-share-own : (h n x : ℕ) (q : List ℕ) → share h n (x ∷ q) x ≡ count (sameList q) (tree h n)
+share-own : (h n x : ℕ) (q : List ℕ) → share h n (x ∷ q) x ≡ countIf (sameList q) (tree h n)
 share-own h n x q =
     count-map (sameList (x ∷ q)) (x ∷_) (tree h n)
-    ∙ ap (λ (f : List ℕ → Bool). count f (tree h n)) (fun-ext (λ w. ap (λ (b : Bool). b && sameList q w) (eq-eqb x x refl)))
+    ∙ ap (λ (f : List ℕ → Bool). countIf f (tree h n)) (fun-ext (λ w. ap (λ (b : Bool). b && sameList q w) (eq-eqb x x refl)))
 
 -- ---- each word is a list of 1 to n numbers below h
 
@@ -141,13 +125,13 @@ abbrev pub Word : ℕ → ℕ → List ℕ → Type 0
 Word h n q = (1 ≤ length q) × (length q ≤ n) × Below h q
 
 -- a number in front of nothing or of a word
-word-cons : (h n s : ℕ) (q : List ℕ) → s < h → 1 ≤ count (sameList q) (tree h n) → (1 ≤ count (sameList q) (words h n) → Word h n q) → Word h (suc n) (s ∷ q)
-unfolding count tree
+word-cons : (h n s : ℕ) (q : List ℕ) → s < h → 1 ≤ countIf (sameList q) (tree h n) → (1 ≤ countIf (sameList q) (words h n) → Word h n q) → Word h (suc n) (s ∷ q)
+unfolding countIf tree
 word-cons h n s [] l c ih = (omega arith, omega arith, below-cons h s [] l (λ i m. absurd (omega arith)))
 word-cons h n s (x ∷ q) l c ih = let w = ih (omega arith) in (omega arith, omega (arith, w .1), below-cons h s (x ∷ q) l (w .2))
 
 -- what is in the branch of s
-word-of : (h n s : ℕ) (q : List ℕ) → s < h → 1 ≤ share h n q s → ((r : List ℕ) → 1 ≤ count (sameList r) (words h n) → Word h n r) → Word h (suc n) q
+word-of : (h n s : ℕ) (q : List ℕ) → s < h → 1 ≤ share h n q s → ((r : List ℕ) → 1 ≤ countIf (sameList r) (words h n) → Word h n r) → Word h (suc n) q
 word-of h n s [] l c ih = absurd (omega (arith, share-empty h n s))
 word-of h n s (x ∷ q) l c ih = pick (ℕ-discrete x s)
   where
@@ -156,8 +140,8 @@ word-of h n s (x ∷ q) l c ih = pick (ℕ-discrete x s)
     pick (no ne) = absurd (omega (arith, share-other h n x s q ne))
 
 -- what is among the words is such a list
-pub words-only : (h n : ℕ) (q : List ℕ) → 1 ≤ count (sameList q) (words h n) → Word h n q
-unfolding words count
+pub words-only : (h n : ℕ) (q : List ℕ) → 1 ≤ countIf (sameList q) (words h n) → Word h n q
+unfolding words countIf
 words-only h zero q l = absurd (omega arith)
 words-only h (suc n) q l =
     let w = sum-some (share h n q) 0 h (omega (arith, words-sum h n q)) in word-of h n (w .0) q (omega (arith, w .1)) (w .2) (words-only h n)
@@ -165,21 +149,21 @@ words-only h (suc n) q l =
 -- ---- each such list is a word, once
 
 -- the empty list is no word
-words-empty : (h n : ℕ) → count (sameList []) (words h n) ≡ 0
-words-empty h n = pick (ℕ-discrete (count (sameList []) (words h n)) 0)
+words-empty : (h n : ℕ) → countIf (sameList []) (words h n) ≡ 0
+words-empty h n = pick (ℕ-discrete (countIf (sameList []) (words h n)) 0)
   where
-    pick : Dec (count (sameList []) (words h n) ≡ 0) → count (sameList []) (words h n) ≡ 0
+    pick : Dec (countIf (sameList []) (words h n) ≡ 0) → countIf (sameList []) (words h n) ≡ 0
     pick (yes e) = e
     pick (no ne) = absurd (omega (arith, words-only h n [] (omega arith) .0))
 
 -- a list is once in the branch of its first number
-share-one : (h n x : ℕ) (q : List ℕ) → (1 ≤ length q → count (sameList q) (words h n) ≡ 1) → share h n (x ∷ q) x ≡ 1
-unfolding count tree
+share-one : (h n x : ℕ) (q : List ℕ) → (1 ≤ length q → countIf (sameList q) (words h n) ≡ 1) → share h n (x ∷ q) x ≡ 1
+unfolding countIf tree
 share-one h n x [] ih = omega (arith, share-own h n x [], words-empty h n)
 share-one h n x (y ∷ q) ih = omega (arith, share-own h n x (y ∷ q), ih (omega arith))
 
 -- a list of 1 to n numbers below h is among the words once
-pub words-count : (h n : ℕ) (q : List ℕ) → 1 ≤ length q → length q ≤ n → Below h q → count (sameList q) (words h n) ≡ 1
+pub words-count : (h n : ℕ) (q : List ℕ) → 1 ≤ length q → length q ≤ n → Below h q → countIf (sameList q) (words h n) ≡ 1
 words-count h zero q l m b = absurd (omega arith)
 words-count h (suc n) [] l m b = absurd (omega arith)
 words-count h (suc n) (x ∷ q) l m b =
@@ -197,14 +181,14 @@ words-count h (suc n) (x ∷ q) l m b =
 -- ---- the first word that passes a test, in dictionary order
 
 -- nothing passes: no list of 1 to n numbers below h does
-words-none : (p : List ℕ → Bool) (h n : ℕ) (b : List ℕ) → any p (words h n) ≡ false → Word h n b → p b ≡ false
+words-none : (p : List ℕ → Bool) (h n : ℕ) (b : List ℕ) → anyOf p (words h n) ≡ false → Word h n b → p b ≡ false
 words-none p h n b e w = counted-fails p (words h n) b (omega (arith, words-count h n b (w .0) (w .1) (w .2))) e
 
 -- the same where the empty list stands before the words
-tree-none : (p : List ℕ → Bool) (h n : ℕ) (b : List ℕ) → any p (tree h n) ≡ false → length b ≤ n → Below h b → p b ≡ false
-unfolding any tree
-tree-none p h n [] e l w = or-false-left (p []) (any p (words h n)) e
-tree-none p h n (x ∷ b) e l w = words-none p h n (x ∷ b) (or-false-right (p []) (any p (words h n)) e) (omega arith, l, w)
+tree-none : (p : List ℕ → Bool) (h n : ℕ) (b : List ℕ) → anyOf p (tree h n) ≡ false → length b ≤ n → Below h b → p b ≡ false
+unfolding anyOf tree
+tree-none p h n [] e l w = or-false-left (p []) (anyOf p (words h n)) e
+tree-none p h n (x ∷ b) e l w = words-none p h n (x ∷ b) (or-false-right (p []) (anyOf p (words h n)) e) (omega arith, l, w)
 
 -- the first word that passes is not after any other that does
 abbrev pub Ordered : ℕ → ℕ → Type 0
@@ -257,7 +241,7 @@ branch-first p h n s c x b ord e (inl q) l w t =
 branch-first p h n s c x b ord e (inr q) l w t = after-more s x c b q
 
 -- not found there, so a list that passes begins with more
-branch-none : (p : List ℕ → Bool) (h n s x : ℕ) (b : List ℕ) → any (λ w. p (s ∷ w)) (tree h n) ≡ false → (s ≡ x) ⊎ (s < x) → length b ≤ n → Below h b
+branch-none : (p : List ℕ → Bool) (h n s x : ℕ) (b : List ℕ) → anyOf (λ w. p (s ∷ w)) (tree h n) ≡ false → (s ≡ x) ⊎ (s < x) → length b ≤ n → Below h b
     → p (x ∷ b) ≡ true → s < x
 branch-none p h n s x b e (inl q) l w t =
     let f : p (s ∷ b) ≡ false = tree-none (λ v. p (s ∷ v)) h n b e l w in
@@ -283,7 +267,7 @@ over-first p h n s (suc k) a x b ord e i j l w t =
         let g : a ≡ s ∷ c = cc in
         ap (λ (v : List ℕ). notAfter v (x ∷ b)) g ∙ branch-first p h n s c x b ord q (eq-or-lt-of-le i) l w t
     pick none q ih =
-        let f : any (λ v. p (s ∷ v)) (tree h n) ≡ false = none-first (λ v. p (s ∷ v)) (tree h n) q in
+        let f : anyOf (λ v. p (s ∷ v)) (tree h n) ≡ false = none-first (λ v. p (s ∷ v)) (tree h n) q in
         ih (sym (first-later p (branch h n s) later (any-map p (s ∷_) (tree h n) ∙ f)) ∙ e) (branch-none p h n s x b f (eq-or-lt-of-le i) l w t)
 
 -- the words stand in dictionary order

@@ -5,7 +5,7 @@ use mathlib.Core.List.{List}
 use Prim.Native.Nat.{ℕ, _<_}
 use lib.Dec.{leb, ltb}
 use lib.ListN.{length, getD}
-use Rattle.model.specs.Lists.{upFrom, any}
+use Rattle.model.specs.Lists.{upFrom, anyOf}
 use Rattle.model.specs.Loop.{Loop, depAt}
 use Rattle.model.specs.Legality.{placed, holds, breaks}
 
@@ -19,7 +19,7 @@ breaksAt l ii xs s e = breaks ii (placed xs) (length xs) s (depAt l e)
 
 -- it breaks none of the first k dependences
 unfoldable pub allowed : Loop → ℕ → List ℕ → ℕ → ℕ → Bool
-allowed l ii xs k s = not (any (breaksAt l ii xs s) (upFrom 0 k))
+allowed l ii xs k s = not (anyOf (breaksAt l ii xs s) (upFrom 0 k))
 
 -- from r on, and from there on only, the target of dependence e may start where its source starts at s
 abbrev pub EarliestIs : Loop → ℕ → ℕ → ℕ → ℕ → Type 0

@@ -4,7 +4,7 @@ use mathlib.Core.List.{List, [], _∷_, _++_, map, flatMap}
 use mathlib.Core.Option.{Option, none, some}
 use Prim.Native.Nat.{ℕ, suc, _-_}
 use lib.Dec.{ltb}
-use Rattle.model.specs.Lists.{upFrom, first, count}
+use Rattle.model.specs.Lists.{upFrom, first, countIf}
 use Rattle.model.specs.Search.{words, whole, tried}
 
 -- ---- the lists that are tried, over any predicate L of lists that says which are legal
@@ -29,7 +29,7 @@ treeAnswer L h m = first (whole L m) (tree h m)
 
 -- the probes of the tree: its empty list is none
 unfoldable pub treeProbes : (List ℕ → Bool) → ℕ → ℕ → ℕ
-treeProbes L h m = count (tried L (treeAnswer L h m)) (words h m)
+treeProbes L h m = countIf (tried L (treeAnswer L h m)) (words h m)
 
 -- the first legal list of m + 1 numbers that begins with one of s, s + 1, .. (k numbers)
 unfoldable pub overAnswer : (List ℕ → Bool) → ℕ → ℕ → ℕ → ℕ → Option (List ℕ)
@@ -37,7 +37,7 @@ overAnswer L h m s k = first (whole L (suc m)) (over h m s k)
 
 -- the probes of those
 unfoldable pub overProbes : (List ℕ → Bool) → ℕ → ℕ → ℕ → ℕ → ℕ
-overProbes L h m s k = count (tried L (overAnswer L h m s k)) (over h m s k)
+overProbes L h m s k = countIf (tried L (overAnswer L h m s k)) (over h m s k)
 
 -- ---- with a budget
 

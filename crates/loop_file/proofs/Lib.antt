@@ -1,6 +1,6 @@
 -- Hand-written laws of the crate that belong to no one function.
-pub mod Settled
+pub mod CheckAnswers
 pub mod Tables
-pub mod Joined
+pub mod FileChecks
 pub mod Answers
 pub mod Sections

@@ -1,24 +1,19 @@
--- What the reader's loops over tables of checks say turn by turn, and the test of a signed range. Assumes nothing.
+-- What the reader's loops over tables of checks say turn by turn. Assumes nothing.
 use mathlib.Core.Path.{_≡_, refl, ap}
-use mathlib.Core.Bool.{Bool, true, false, not, _&&_, _||_}
 use mathlib.Core.List.{List, flatMap}
 use mathlib.Core.Option.{none, some}
 use Prim.Native.Nat.{ℕ, zero, suc, _+_, _*_, _≤_, _<_}
 use native.Mathlib.Omega.{arith}
 use native.Mathlib.Numerals.{add-one}
-use lib.Dec.{leb, ltb, ltb→lt, nltb→le}
-use lib.IntN.{ℤ, pos, negsuc}
-use lib.Signed.{leZ, ltZ}
-use borrow.Author.Tests.{lt-ltb, le-ltb, le-leb, lt-leb, ltb-false}
+use borrow.Author.Tests.{ltb-false}
 use Rattle.model.specs.Lists.{upFrom}
 use Rattle.model.specs.Refusals.{Refusal, Check, firstRefusal, answered, refused, settle}
 use Rattle.model.specs.File.{byteAt, opRecord, usesOf, firstUse, opChecks}
 use Rattle.model.proofs.Checks.{row-refused, passes-head, passes-tail, passes-each}
-use Rattle.model.proofs.Signed.{by-test}
 use Rattle.loop_file.specs.declared.reader.Part.{Part}
 use Rattle.loop_file.specs.declared.reader.Part.the-variants.{Fine, Refused}
 use Rattle.loop_file.specs.Read.{partOf, opsTable}
-use Rattle.loop_file.proofs.Settled.{fine-none, refused-some, none-answered, some-refused}
+use Rattle.loop_file.proofs.CheckAnswers.{fine-none, refused-some, none-answered, some-refused}
 
 -- ---- a row of tables, which a loop goes through one number after the other
 
@@ -53,30 +48,6 @@ first-use-none f = refl
 pub first-use-next : (f : List ℕ) (o : ℕ) → firstUse f (o + 1) ≡ firstUse f o + usesOf f o
 unfolding firstUse
 first-use-next f o = rw (add-one o)
-
--- ---- a signed range
-
--- at most is not above
-leb-not : (a b : ℕ) → leb a b ≡ not (ltb b a)
-leb-not a b =
-    by-test (ltb b a)
-    (λ t. let h : b < a = ltb→lt b a t in rw (lt-ltb b a h, lt-leb a b h))
-    (λ t. let h : a ≤ b = nltb→le b a t in rw (le-ltb b a h, le-leb a b h))
-
-leZ-not : (a b : ℤ) → leZ a b ≡ not (ltZ b a)
-leZ-not (pos m) (pos n) = leb-not m n
-leZ-not (pos m) (negsuc n) = refl
-leZ-not (negsuc m) (pos n) = refl
-leZ-not (negsuc m) (negsuc n) = leb-not n m
-
-not-both : (a b : Bool) → not (not a && not b) ≡ (a || b)
-not-both true b = refl
-not-both false true = refl
-not-both false false = refl
-
--- outside a range: below it or above it
-pub outside : (a b z : ℤ) → not (leZ a z && leZ z b) ≡ (ltZ z a || ltZ b z)
-outside a b z = rw (leZ-not a z, leZ-not z b) (not-both (ltZ z a) (ltZ b z))
 
 -- ---- the number of uses
 

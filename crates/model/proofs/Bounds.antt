@@ -14,7 +14,7 @@ use Rattle.model.specs.Loop.{Dep, Loop, size, depAt, DepOk}
 use Rattle.model.specs.Legality.{placed, holds, brokenAt, broken, meets}
 use Rattle.model.specs.Bounds.{resourceBound, Feasible, RecurrenceBound, Goes, Closed, delayOf, distanceOf, Heavy, Stuck, Lower, LowerIs, cyclic, beyond, within}
 use Rattle.model.proofs.Legality.{meets-each, each-meets, meets-more}
-use Rattle.model.proofs.Placed.{placed-in}
+use Rattle.model.proofs.StartLists.{placed-in}
 use Rattle.model.proofs.Signed.{Is, is-pos, is-add, lt-of, parts, holds-parts}
 
 -- ---- starts that meet the dependences, in naturals

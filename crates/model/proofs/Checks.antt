@@ -3,15 +3,14 @@ use mathlib.Core.Path.{_≡_, refl, sym, ap, _∙_}
 use mathlib.Core.Bool.{Bool, true, false, cond}
 use mathlib.Core.List.{List, [], _∷_, _++_, flatMap}
 use mathlib.Core.Logic.{_⊎_, inl, inr}
-use mathlib.Core.Option.{none, some}
+use mathlib.Core.Option.{Option, none, some}
 use Prim.Native.Nat.{ℕ, zero, suc, _+_, _-_, _≤_, _<_}
 use native.Mathlib.Nat.{eq-or-lt-of-le}
 use native.Mathlib.Omega.{arith}
 use borrow.Author.Tests.{ltb-false, lt-ltb, le-ltb}
 use lib.Dec.{ltb}
 use Rattle.model.specs.Lists.{upFrom}
-use Rattle.model.specs.Refusals.{Refusal, Check, firstRefusal}
-use Rattle.model.specs.Search.{outside}
+use Rattle.model.specs.Refusals.{Refusal, Check, ifFound, outside, firstRefusal}
 use Rattle.model.proofs.Lists.{or-false-left, or-false-right, upFrom-split, flatMap-append, flat-next}
 
 -- ---- tables of checks
@@ -89,6 +88,22 @@ row-refused t k n r l p q =
     ∙ ap firstRefusal (flatMap-append t (upFrom 0 (k + 1)) (upFrom (0 + (k + 1)) (n - (k + 1))))
     ∙ refusal-early (flatMap t (upFrom 0 (k + 1))) (flatMap t (upFrom (0 + (k + 1)) (n - (k + 1)))) r
     (rw (flat-next t k, refusal-append (flatMap t (upFrom 0 k)) (t k) p) q)
+
+-- ---- a check that fails where something is found
+
+-- it passes only where nothing is
+pub not-found : (n : ℕ) (x : Option ℕ) → ifFound n x .fails ≡ false → x ≡ none
+not-found n none e = refl
+not-found n (some d) e = let z : _≡_ {A = ℕ} 0 1 = cc in absurd (omega arith)
+
+-- what is found is the detail
+pub found-refused : (n : ℕ) (x : Option ℕ) (d : ℕ) (rest : List Check) → x ≡ some d → firstRefusal (ifFound n x ∷ rest) ≡ some (record { number = n; detail = d })
+unfolding firstRefusal
+found-refused n x d rest e = rw e
+
+pub found-passed : (n : ℕ) (x : Option ℕ) (rest : List Check) → x ≡ none → firstRefusal (ifFound n x ∷ rest) ≡ firstRefusal rest
+unfolding firstRefusal
+found-passed n x rest e = rw e
 
 -- ---- a number out of range
 

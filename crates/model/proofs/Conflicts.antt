@@ -11,7 +11,7 @@ use native.Mathlib.Omega.{arith}
 use borrow.Author.Tests.{ltb-true, ltb-false, leb-true, eqb-true, lt-ltb, le-ltb, le-leb, eq-eqb, ne-eqb}
 use lib.Dec.{eqb, leb, ltb}
 use lib.ListN.{length}
-use Rattle.model.specs.Lists.{upFrom, any, count, sumOf}
+use Rattle.model.specs.Lists.{upFrom, anyOf, countIf, sumOf}
 use Rattle.model.specs.Loop.{Use, Op, Loop, noUse, size, opAt, useAt, OpOk, LoopOk}
 use Rattle.model.specs.Legality.{Placing, Cell, sameCell, covers, cellsIn, footprint, share, conflict, selfConflict, conflictAt, selfConflictAt, pairConflict, apart}
 use Rattle.model.specs.Table.{countOf, opCells, cellsOf}
@@ -23,25 +23,25 @@ use Rattle.model.proofs.Legality.{apart-each, each-apart}
 
 -- of two lists with no cell in common, a cell of the first is not in the second
 pub apart-cells : (xs ys : List Cell) → share xs ys ≡ false → (s r : ℕ) → 1 ≤ countOf s r xs → countOf s r ys ≡ 0
-unfolding share any count
+unfolding share anyOf countIf
 apart-cells [] ys e s r h = absurd (omega arith)
 apart-cells (c ∷ xs) ys e s r h =
-    pick (sameCell (record { slot = s; row = r }) c) refl h (apart-cells xs ys (or-false-right (any (sameCell c) ys) (share xs ys) e) s r)
+    pick (sameCell (record { slot = s; row = r }) c) refl h (apart-cells xs ys (or-false-right (anyOf (sameCell c) ys) (share xs ys) e) s r)
   where
     pick : (b : Bool) → sameCell (record { slot = s; row = r }) c ≡ b → 1 ≤ cond b 1 0 + countOf s r xs
         → (1 ≤ countOf s r xs → countOf s r ys ≡ 0) → countOf s r ys ≡ 0
     pick true q l ih =
         let both = and-eq-true-iff (eqb s (c .slot)) (eqb r (c .row)) .0 q in
         ap (λ (x : ℕ). countOf x r ys) (eqb-true s (c .slot) (both .0)) ∙ ap (λ (x : ℕ). countOf (c .slot) x ys) (eqb-true r (c .row) (both .1))
-        ∙ count-none (sameCell c) ys (or-false-left (any (sameCell c) ys) (share xs ys) e)
+        ∙ count-none (sameCell c) ys (or-false-left (anyOf (sameCell c) ys) (share xs ys) e)
     pick false q l ih = ih (omega arith)
 
 -- and the other way round
 pub cells-apart : (xs ys : List Cell) → ((s r : ℕ) → 1 ≤ countOf s r xs → countOf s r ys ≡ 0) → share xs ys ≡ false
-unfolding share any count
+unfolding share anyOf countIf
 cells-apart [] ys h = refl
 cells-apart (c ∷ xs) ys h =
-    or-both (any (sameCell c) ys) (share xs ys)
+    or-both (anyOf (sameCell c) ys) (share xs ys)
     (none-count (sameCell c) ys (h (c .slot) (c .row) (rw (eq-eqb (c .slot) (c .slot) refl, eq-eqb (c .row) (c .row) refl) (omega arith))))
     (cells-apart xs ys (λ s r l. h s r (omega arith)))
 
@@ -61,7 +61,7 @@ four false b c d h = absurd (omega arith)
 
 -- in one cycle a cell counts once for each use that covers it
 count-cycle : (s r row k : ℕ) (us : List Use) → countOf s r (cellsIn row k us) ≡ sumOf (hits s r row k) us
-unfolding cellsIn count sumOf hits
+unfolding cellsIn countIf sumOf hits
 count-cycle s r row k [] = refl
 count-cycle s r row k (u ∷ us) = pick (covers k u) (count-cycle s r row k us)
   where
@@ -210,7 +210,7 @@ module _ (ii : ℕ) (p : Op) (t : ℕ) (ok : OpOk p) where
 
 -- the same of an operation that may not be placed
 pub placed-once : (ii : ℕ) (p : Op) (x : Option ℕ) → OpOk p → selfConflictAt ii p x ≡ false → (s r : ℕ) → countOf s r (opCells ii p x) ≤ 1
-unfolding count
+unfolding countIf
 placed-once ii p none ok e s r = omega arith
 placed-once ii p (some t) ok e s r = self-once ii p t ok e s r
 
@@ -222,7 +222,7 @@ once-placed ii p (some t) ok pos h = once-self ii p t ok pos h
 module _ (ii : ℕ) (p q : Op) where
   -- of two operations that do not conflict, a cell of the first is not one of the second
   pub conflict-cells : (x y : Option ℕ) → conflictAt ii p x q y ≡ false → (s r : ℕ) → 1 ≤ countOf s r (opCells ii p x) → countOf s r (opCells ii q y) ≡ 0
-  unfolding conflict count
+  unfolding conflict countIf
   conflict-cells none y e s r h = absurd (omega arith)
   conflict-cells (some a) none e s r h = refl
   conflict-cells (some a) (some b) e s r h = apart-cells (footprint ii p a) (footprint ii q b) e s r h
@@ -274,7 +274,7 @@ module _ (l : Loop) (ii : ℕ) (f : Placing) where
 -- placing one more operation adds its cells, whatever the others are
 pub cells-around : (l : Loop) (ii : ℕ) (f g : Placing) (o t s r : ℕ) → o < size l → f o ≡ none → g o ≡ some t → ((p : ℕ) → (p ≡ o → ⊥) → g p ≡ f p)
     → countOf s r (cellsOf l ii g) ≡ countOf s r (footprint ii (opAt l o) t) + countOf s r (cellsOf l ii f)
-unfolding count
+unfolding countIf
 cells-around l ii f g o t s r inside was is others =
     let old : cellsAt l ii f s r o ≡ 0 = rw was in
     let new : cellsAt l ii g s r o ≡ countOf s r (footprint ii (opAt l o) t) = rw is in

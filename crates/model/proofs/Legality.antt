@@ -10,12 +10,12 @@ use native.Mathlib.Omega.{arith}
 use lib.Dec.{eqb}
 use lib.ListN.{length, getD}
 use borrow.Author.Tests.{eq-eqb, ne-eqb, eqb-true, leb-true, le-leb, not-true, not-false}
-use Rattle.model.specs.Lists.{upFrom, pairs, any}
+use Rattle.model.specs.Lists.{upFrom, pairs, anyOf}
 use Rattle.model.specs.Integers.{plus, minus}
 use Rattle.model.specs.Loop.{Op, Dep, Loop, size, opAt, depAt, noDep}
 use Rattle.model.specs.Legality.{Placing, placed, holds, brokenAt, broken, meets, Cell, sameCell, footprint, share, conflict, selfConflict, conflictAt, selfConflictAt, pairConflict, apart, legalAt, legal, placeAt, touches, breaks, conflictsWith, fitsAt}
 use Rattle.model.proofs.Lists.{false-not, and-left, and-right, and-both, same-true, or-false-left, or-false-right, or-both, same-test, any-at, at-any, any-row, row-any, any-pairs, pairs-any}
-use Rattle.model.proofs.Placed.{placed-past, placed-snoc}
+use Rattle.model.proofs.StartLists.{placed-past, placed-snoc}
 use Rattle.model.proofs.Signed.{holds-parts}
 
 -- ---- the parts of legality
@@ -23,20 +23,20 @@ use Rattle.model.proofs.Signed.{holds-parts}
 -- no dependence is broken
 pub meets-each : (l : Loop) (ii : ℕ) (f : Placing) → meets l ii f ≡ true → (e : ℕ) → e < length (l .deps) → broken ii f (depAt l e) ≡ false
 unfolding meets
-meets-each l ii f h e m = any-at (broken ii f) (l .deps) e noDep (not-true (any (broken ii f) (l .deps)) h) m
+meets-each l ii f h e m = any-at (broken ii f) (l .deps) e noDep (not-true (anyOf (broken ii f) (l .deps)) h) m
 
 pub each-meets : (l : Loop) (ii : ℕ) (f : Placing) → ((e : ℕ) → e < length (l .deps) → broken ii f (depAt l e) ≡ false) → meets l ii f ≡ true
 unfolding meets
-each-meets l ii f h = false-not (any (broken ii f) (l .deps)) (at-any (broken ii f) (l .deps) noDep h)
+each-meets l ii f h = false-not (anyOf (broken ii f) (l .deps)) (at-any (broken ii f) (l .deps) noDep h)
 
 -- no pair conflicts
 pub apart-each : (l : Loop) (ii : ℕ) (f : Placing) → apart l ii f ≡ true → (a b : ℕ) → a ≤ b → b < size l → pairConflict l ii f (a, b) ≡ false
 unfolding apart
-apart-each l ii f h a b o m = any-pairs (pairConflict l ii f) (size l) a b (not-true (any (pairConflict l ii f) (pairs (size l))) h) o m
+apart-each l ii f h a b o m = any-pairs (pairConflict l ii f) (size l) a b (not-true (anyOf (pairConflict l ii f) (pairs (size l))) h) o m
 
 pub each-apart : (l : Loop) (ii : ℕ) (f : Placing) → ((a b : ℕ) → a ≤ b → b < size l → pairConflict l ii f (a, b) ≡ false) → apart l ii f ≡ true
 unfolding apart
-each-apart l ii f h = false-not (any (pairConflict l ii f) (pairs (size l))) (pairs-any (pairConflict l ii f) (size l) h)
+each-apart l ii f h = false-not (anyOf (pairConflict l ii f) (pairs (size l))) (pairs-any (pairConflict l ii f) (size l) h)
 
 -- a legal placing, part by part
 pub record Legal (l : Loop) (ii : ℕ) (f : Placing) : Type 0 where
@@ -63,8 +63,8 @@ pub record Fits (l : Loop) (ii : ℕ) (f : Placing) (o t : ℕ) : Type 0 where
 pub fits-parts : (l : Loop) (ii : ℕ) (f : Placing) (o t : ℕ) → fitsAt l ii f o t ≡ true → Fits l ii f o t
 unfolding fitsAt
 fits-parts l ii f o t h =
-    let d : any (breaks ii f o t) (l .deps) ≡ false = not-true (any (breaks ii f o t) (l .deps)) (and-left (not (any (breaks ii f o t) (l .deps))) _ h) in
-    let c : (selfConflict ii (opAt l o) || any (conflictsWith l ii f o t) (upFrom 0 (size l))) ≡ false = not-true _ (and-right (not (any (breaks ii f o t) (l .deps))) _ h) in
+    let d : anyOf (breaks ii f o t) (l .deps) ≡ false = not-true (anyOf (breaks ii f o t) (l .deps)) (and-left (not (anyOf (breaks ii f o t) (l .deps))) _ h) in
+    let c : (selfConflict ii (opAt l o) || anyOf (conflictsWith l ii f o t) (upFrom 0 (size l))) ≡ false = not-true _ (and-right (not (anyOf (breaks ii f o t) (l .deps))) _ h) in
     record {
       kept = λ e m. any-at (breaks ii f o t) (l .deps) e noDep d m;
       self = or-false-left (selfConflict ii (opAt l o)) _ c;
@@ -74,8 +74,8 @@ fits-parts l ii f o t h =
 pub parts-fits : (l : Loop) (ii : ℕ) (f : Placing) (o t : ℕ) → Fits l ii f o t → fitsAt l ii f o t ≡ true
 unfolding fitsAt
 parts-fits l ii f o t h =
-    and-both (not (any (breaks ii f o t) (l .deps))) _
-    (false-not (any (breaks ii f o t) (l .deps)) (at-any (breaks ii f o t) (l .deps) noDep (h .kept)))
+    and-both (not (anyOf (breaks ii f o t) (l .deps))) _
+    (false-not (anyOf (breaks ii f o t) (l .deps)) (at-any (breaks ii f o t) (l .deps) noDep (h .kept)))
     (false-not _ (or-both (selfConflict ii (opAt l o)) _ (h .self) (row-any (conflictsWith l ii f o t) 0 (size l) (λ p m q. h .clear p (omega arith)))))
 
 -- ---- fewer operations
@@ -168,9 +168,9 @@ noCell = record { slot = 0; row = 0 }
 share-flip : (xs ys : List Cell) → share xs ys ≡ false → share ys xs ≡ false
 unfolding share
 share-flip xs ys h =
-    at-any (λ c. any (sameCell c) xs) ys noCell (λ j m. at-any (sameCell (getD ys j noCell)) xs noCell (λ i k.
+    at-any (λ c. anyOf (sameCell c) xs) ys noCell (λ j m. at-any (sameCell (getD ys j noCell)) xs noCell (λ i k.
     same-cell-sym (getD ys j noCell) (getD xs i noCell)
-    ∙ any-at (sameCell (getD xs i noCell)) ys j noCell (any-at (λ c. any (sameCell c) ys) xs i noCell h k) m))
+    ∙ any-at (sameCell (getD xs i noCell)) ys j noCell (any-at (λ c. anyOf (sameCell c) ys) xs i noCell h k) m))
 
 pub share-sym : (xs ys : List Cell) → share xs ys ≡ share ys xs
 share-sym xs ys = same-test (share xs ys) (share ys xs) (share-flip xs ys) (share-flip ys xs)

@@ -9,7 +9,7 @@ pub mod Machine
 pub mod Loop
 pub mod File
 pub mod Delays
-pub mod Placed
+pub mod StartLists
 pub mod Legality
 pub mod Table
 pub mod Conflicts

@@ -1,5 +1,5 @@
 -- Laws of the model's list functions. Assumes nothing.
-use mathlib.Core.Path.{_≡_, refl, sym, ap, _∙_}
+use mathlib.Core.Path.{_≡_, refl, sym, ap, ap₂, _∙_}
 use mathlib.Core.Bool.{Bool, true, false, not, cond, _&&_, _||_, or-assoc}
 use mathlib.Core.List.{List, [], _∷_, _++_, map, flatMap, append-nil, append-assoc}
 use mathlib.Core.Option.{none, some}
@@ -7,8 +7,8 @@ use Prim.Native.Nat.{ℕ, zero, suc, _+_, _-_, _≤_, _<_}
 use native.Mathlib.Nat.{add-zero, zero-add, suc-add, le-of-suc-le-suc, not-suc-le-zero}
 use native.Mathlib.Decide.{ℕ-discrete}
 use native.Mathlib.Omega.{arith}
-use lib.ListN.{length, getD, replicate}
-use Rattle.model.specs.Lists.{upFrom, pairs, any, first, count, sumOf}
+use lib.ListN.{length, getD, take, drop, replicate, take-append-drop}
+use Rattle.model.specs.Lists.{upFrom, pairs, anyOf, first, countIf, sumOf}
 
 -- ---- tests
 
@@ -107,113 +107,131 @@ getD-filled zero i a = refl
 getD-filled (suc n) zero a = refl
 getD-filled (suc n) (suc i) a = getD-filled n i a
 
+-- ---- parts and places
+
+-- two lists that agree in their first n places and after those are one
+pub take-drop-same : {A : Type 0} (n : ℕ) (xs ys : List A) → take n xs ≡ take n ys → drop n xs ≡ drop n ys → xs ≡ ys
+take-drop-same {A} n xs ys p q = sym (take-append-drop n xs) ∙ ap₂ (λ (a b : List A). a ++ b) p q ∙ take-append-drop n ys
+
+-- a map over a part
+pub map-take : {A B : Type 0} (f : A → B) (n : ℕ) (l : List A) → map f (take n l) ≡ take n (map f l)
+map-take f zero l = refl
+map-take f (suc n) [] = refl
+map-take f (suc n) (x ∷ l) = ap (λ t. f x ∷ t) (map-take f n l)
+
+-- a place of a map, whatever stands past the ends
+pub getD-map-lt : {A B : Type 0} (f : A → B) (l : List A) (n : ℕ) (d : A) (e : B) → n < length l → getD (map f l) n e ≡ f (getD l n d)
+getD-map-lt f [] n d e h = absurd (not-suc-le-zero h)
+getD-map-lt f (x ∷ l) zero d e h = refl
+getD-map-lt f (x ∷ l) (suc n) d e h = getD-map-lt f l n d e (le-of-suc-le-suc h)
+
 -- ---- any
 
 module _ {A : Type 0} where
-  pub any-append : (p : A → Bool) (xs ys : List A) → any p (xs ++ ys) ≡ (any p xs || any p ys)
-  unfolding any
+  pub any-append : (p : A → Bool) (xs ys : List A) → anyOf p (xs ++ ys) ≡ (anyOf p xs || anyOf p ys)
+  unfolding anyOf
   any-append p [] ys = refl
-  any-append p (x ∷ xs) ys = ap (λ (b : Bool). p x || b) (any-append p xs ys) ∙ sym (or-assoc (p x) (any p xs) (any p ys))
+  any-append p (x ∷ xs) ys = ap (λ (b : Bool). p x || b) (any-append p xs ys) ∙ sym (or-assoc (p x) (anyOf p xs) (anyOf p ys))
 
   -- no element passes, said of each place
-  pub any-at : (p : A → Bool) (xs : List A) (i : ℕ) (d : A) → any p xs ≡ false → i < length xs → p (getD xs i d) ≡ false
-  unfolding any
+  pub any-at : (p : A → Bool) (xs : List A) (i : ℕ) (d : A) → anyOf p xs ≡ false → i < length xs → p (getD xs i d) ≡ false
+  unfolding anyOf
   any-at p [] i d e l = absurd (not-suc-le-zero l)
-  any-at p (x ∷ xs) zero d e l = or-false-left (p x) (any p xs) e
-  any-at p (x ∷ xs) (suc i) d e l = any-at p xs i d (or-false-right (p x) (any p xs) e) (le-of-suc-le-suc l)
+  any-at p (x ∷ xs) zero d e l = or-false-left (p x) (anyOf p xs) e
+  any-at p (x ∷ xs) (suc i) d e l = any-at p xs i d (or-false-right (p x) (anyOf p xs) e) (le-of-suc-le-suc l)
 
-  pub at-any : (p : A → Bool) (xs : List A) (d : A) → ((i : ℕ) → i < length xs → p (getD xs i d) ≡ false) → any p xs ≡ false
-  unfolding any
+  pub at-any : (p : A → Bool) (xs : List A) (d : A) → ((i : ℕ) → i < length xs → p (getD xs i d) ≡ false) → anyOf p xs ≡ false
+  unfolding anyOf
   at-any p [] d h = refl
-  at-any p (x ∷ xs) d h = or-both (p x) (any p xs) (h 0 (omega arith)) (at-any p xs d (λ i l. h (suc i) (omega arith)))
+  at-any p (x ∷ xs) d h = or-both (p x) (anyOf p xs) (h 0 (omega arith)) (at-any p xs d (λ i l. h (suc i) (omega arith)))
 
-  pub any-map : {B : Type 0} (p : A → Bool) (f : B → A) (xs : List B) → any p (map f xs) ≡ any (λ x. p (f x)) xs
-  unfolding any
+  pub any-map : {B : Type 0} (p : A → Bool) (f : B → A) (xs : List B) → anyOf p (map f xs) ≡ anyOf (λ x. p (f x)) xs
+  unfolding anyOf
   any-map p f [] = refl
   any-map p f (x ∷ xs) = ap (λ (b : Bool). p (f x) || b) (any-map p f xs)
 
-  pub any-flatMap : {B : Type 0} (p : A → Bool) (f : B → List A) (xs : List B) → any p (flatMap f xs) ≡ any (λ x. any p (f x)) xs
-  unfolding any flatMap
+  pub any-flatMap : {B : Type 0} (p : A → Bool) (f : B → List A) (xs : List B) → anyOf p (flatMap f xs) ≡ anyOf (λ x. anyOf p (f x)) xs
+  unfolding anyOf flatMap
   any-flatMap p f [] = refl
-  any-flatMap p f (x ∷ xs) = any-append p (f x) (flatMap f xs) ∙ ap (λ (b : Bool). any p (f x) || b) (any-flatMap p f xs)
+  any-flatMap p f (x ∷ xs) = any-append p (f x) (flatMap f xs) ∙ ap (λ (b : Bool). anyOf p (f x) || b) (any-flatMap p f xs)
 
   -- some element passes, said of a place
-  pub any-some : (p : A → Bool) (xs : List A) (d : A) → any p xs ≡ true → (i : ℕ) × (i < length xs) × (p (getD xs i d) ≡ true)
-  unfolding any
+  pub any-some : (p : A → Bool) (xs : List A) (d : A) → anyOf p xs ≡ true → (i : ℕ) × (i < length xs) × (p (getD xs i d) ≡ true)
+  unfolding anyOf
   any-some p [] d e = let z : _≡_ {A = ℕ} 0 1 = cc in absurd (omega arith)
   any-some p (x ∷ xs) d e = pick (p x) refl e (any-some p xs d)
     where
-      pick : (b : Bool) → p x ≡ b → (b || any p xs) ≡ true → (any p xs ≡ true → (i : ℕ) × (i < length xs) × (p (getD xs i d) ≡ true))
+      pick : (b : Bool) → p x ≡ b → (b || anyOf p xs) ≡ true → (anyOf p xs ≡ true → (i : ℕ) × (i < length xs) × (p (getD xs i d) ≡ true))
           → (i : ℕ) × (i < suc (length xs)) × (p (getD (x ∷ xs) i d) ≡ true)
       pick true q h ih = (0, omega arith, q)
       pick false q h ih = let w = ih h in (suc (w .0), omega (arith, w .1), w .2)
 
-  pub some-any : (p : A → Bool) (xs : List A) (d : A) (i : ℕ) → i < length xs → p (getD xs i d) ≡ true → any p xs ≡ true
-  some-any p xs d i l e = pick (any p xs) refl
+  pub some-any : (p : A → Bool) (xs : List A) (d : A) (i : ℕ) → i < length xs → p (getD xs i d) ≡ true → anyOf p xs ≡ true
+  some-any p xs d i l e = pick (anyOf p xs) refl
     where
-      pick : (b : Bool) → any p xs ≡ b → b ≡ true
+      pick : (b : Bool) → anyOf p xs ≡ b → b ≡ true
       pick true q = refl
       pick false q = let f : p (getD xs i d) ≡ false = any-at p xs i d q l in let z : _≡_ {A = ℕ} 0 1 = cc in absurd (omega arith)
 
   -- the first of two lists, one after the other
-  pub first-later : (p : A → Bool) (xs ys : List A) → any p xs ≡ false → first p (xs ++ ys) ≡ first p ys
-  unfolding any first
+  pub first-later : (p : A → Bool) (xs ys : List A) → anyOf p xs ≡ false → first p (xs ++ ys) ≡ first p ys
+  unfolding anyOf first
   first-later p [] ys e = refl
-  first-later p (x ∷ xs) ys e = rw (or-false-left (p x) (any p xs) e) (first-later p xs ys (or-false-right (p x) (any p xs) e))
+  first-later p (x ∷ xs) ys e = rw (or-false-left (p x) (anyOf p xs) e) (first-later p xs ys (or-false-right (p x) (anyOf p xs) e))
 
-  pub first-found : (p : A → Bool) (xs : List A) (x : A) (ys : List A) → any p xs ≡ false → p x ≡ true → first p (xs ++ (x ∷ ys)) ≡ some x
+  pub first-found : (p : A → Bool) (xs : List A) (x : A) (ys : List A) → anyOf p xs ≡ false → p x ≡ true → first p (xs ++ (x ∷ ys)) ≡ some x
   unfolding first
   first-found p xs x ys e h = first-later p xs (x ∷ ys) e ∙ ap (λ (b : Bool). cond b (some x) (first p ys)) h
 
   -- the first that passes is there exactly where one does
-  pub first-none : (p : A → Bool) (xs : List A) → any p xs ≡ false → first p xs ≡ none
-  unfolding any first
+  pub first-none : (p : A → Bool) (xs : List A) → anyOf p xs ≡ false → first p xs ≡ none
+  unfolding anyOf first
   first-none p [] e = refl
-  first-none p (x ∷ xs) e = rw (or-false-left (p x) (any p xs) e) (first-none p xs (or-false-right (p x) (any p xs) e))
+  first-none p (x ∷ xs) e = rw (or-false-left (p x) (anyOf p xs) e) (first-none p xs (or-false-right (p x) (anyOf p xs) e))
 
-  pub none-first : (p : A → Bool) (xs : List A) → first p xs ≡ none → any p xs ≡ false
-  unfolding any first
+  pub none-first : (p : A → Bool) (xs : List A) → first p xs ≡ none → anyOf p xs ≡ false
+  unfolding anyOf first
   none-first p [] e = refl
   none-first p (x ∷ xs) e = pick (p x) e (none-first p xs)
     where
-      pick : (b : Bool) → cond b (some x) (first p xs) ≡ none → (first p xs ≡ none → any p xs ≡ false) → (b || any p xs) ≡ false
+      pick : (b : Bool) → cond b (some x) (first p xs) ≡ none → (first p xs ≡ none → anyOf p xs ≡ false) → (b || anyOf p xs) ≡ false
       pick true q ih = let z : _≡_ {A = ℕ} 0 1 = cc in absurd (omega arith)
       pick false q ih = ih q
 
 -- no number of a row passes
-pub any-row : (p : ℕ → Bool) (a n k : ℕ) → any p (upFrom a n) ≡ false → a ≤ k → k < a + n → p k ≡ false
+pub any-row : (p : ℕ → Bool) (a n k : ℕ) → anyOf p (upFrom a n) ≡ false → a ≤ k → k < a + n → p k ≡ false
 any-row p a n k e l m =
     let j : k - a < n = omega arith in
     ap p (sym (getD-upFrom a n (k - a) 0 j ∙ omega arith)) ∙ any-at p (upFrom a n) (k - a) 0 e (rw length-upFrom j)
 
-pub row-any : (p : ℕ → Bool) (a n : ℕ) → ((k : ℕ) → a ≤ k → k < a + n → p k ≡ false) → any p (upFrom a n) ≡ false
+pub row-any : (p : ℕ → Bool) (a n : ℕ) → ((k : ℕ) → a ≤ k → k < a + n → p k ≡ false) → anyOf p (upFrom a n) ≡ false
 row-any p a n h =
     at-any p (upFrom a n) 0 (λ i l. let j : i < n = rw length-upFrom at l in ap p (getD-upFrom a n i 0 j) ∙ h (a + i) (omega arith) (omega arith))
 
 -- whether an element of a list passes, by its places
-pub any-places : {A : Type 0} (p : A → Bool) (xs : List A) (d : A) → any p xs ≡ any (λ i. p (getD xs i d)) (upFrom 0 (length xs))
+pub any-places : {A : Type 0} (p : A → Bool) (xs : List A) (d : A) → anyOf p xs ≡ anyOf (λ i. p (getD xs i d)) (upFrom 0 (length xs))
 any-places p xs d =
-    same-test (any p xs) (any (λ i. p (getD xs i d)) (upFrom 0 (length xs)))
+    same-test (anyOf p xs) (anyOf (λ i. p (getD xs i d)) (upFrom 0 (length xs)))
     (λ e. row-any (λ i. p (getD xs i d)) 0 (length xs) (λ i l m. any-at p xs i d e (omega arith)))
     (λ e. at-any p xs d (λ i l. any-row (λ i. p (getD xs i d)) 0 (length xs) i e (omega arith) (omega arith)))
 
 -- some number of a row passes
-pub row-some : (p : ℕ → Bool) (n k : ℕ) → k < n → p k ≡ true → any p (upFrom 0 n) ≡ true
+pub row-some : (p : ℕ → Bool) (n k : ℕ) → k < n → p k ≡ true → anyOf p (upFrom 0 n) ≡ true
 row-some p n k l e = some-any p (upFrom 0 n) 0 k (rw length-upFrom l) (ap p (getD-upFrom 0 n k 0 l ∙ zero-add k) ∙ e)
 
 -- no pair passes
-pub any-pairs : (p : ℕ × ℕ → Bool) (n a b : ℕ) → any p (pairs n) ≡ false → a ≤ b → b < n → p (a, b) ≡ false
+pub any-pairs : (p : ℕ × ℕ → Bool) (n a b : ℕ) → anyOf p (pairs n) ≡ false → a ≤ b → b < n → p (a, b) ≡ false
 unfolding pairs
 any-pairs p n a b e l m =
-    let outer : any p (map (λ c. (a, c)) (upFrom a (n - a))) ≡ false =
-    any-row (λ c. any p (map (λ d. (c, d)) (upFrom c (n - c)))) 0 n a (sym (any-flatMap p (λ c. map (λ d. (c, d)) (upFrom c (n - c))) (upFrom 0 n)) ∙ e) (omega arith) (omega arith) in
+    let outer : anyOf p (map (λ c. (a, c)) (upFrom a (n - a))) ≡ false =
+    any-row (λ c. anyOf p (map (λ d. (c, d)) (upFrom c (n - c)))) 0 n a (sym (any-flatMap p (λ c. map (λ d. (c, d)) (upFrom c (n - c))) (upFrom 0 n)) ∙ e) (omega arith) (omega arith) in
     any-row (λ c. p (a, c)) a (n - a) b (sym (any-map p (λ c. (a, c)) (upFrom a (n - a))) ∙ outer) l (omega arith)
 
-pub pairs-any : (p : ℕ × ℕ → Bool) (n : ℕ) → ((a b : ℕ) → a ≤ b → b < n → p (a, b) ≡ false) → any p (pairs n) ≡ false
+pub pairs-any : (p : ℕ × ℕ → Bool) (n : ℕ) → ((a b : ℕ) → a ≤ b → b < n → p (a, b) ≡ false) → anyOf p (pairs n) ≡ false
 unfolding pairs
 pairs-any p n h =
     any-flatMap p (λ c. map (λ d. (c, d)) (upFrom c (n - c))) (upFrom 0 n)
-    ∙ row-any (λ c. any p (map (λ d. (c, d)) (upFrom c (n - c)))) 0 n
+    ∙ row-any (λ c. anyOf p (map (λ d. (c, d)) (upFrom c (n - c)))) 0 n
     (λ a l m. any-map p (λ c. (a, c)) (upFrom a (n - a)) ∙ row-any (λ c. p (a, c)) a (n - a) (λ b q r. h a b q (omega arith)))
 
 -- what fails below n, and at n, fails below n + 1
@@ -254,7 +272,7 @@ pairs-first p n a b l m before beside e =
     ap (λ (xs : List ℕ). first p (flatMap row xs)) (row-around 0 n a (omega arith) (omega arith))
     ∙ ap (first p) (flatMap-append row (upFrom 0 (a - 0)) (a ∷ upFrom (suc a) (0 + n - suc a)))
     ∙ first-later p (flatMap row (upFrom 0 (a - 0))) (row a ++ flatMap row (upFrom (suc a) (0 + n - suc a)))
-    (any-flatMap p row (upFrom 0 (a - 0)) ∙ row-any (λ c. any p (row c)) 0 (a - 0) (λ c q r. any-map p (λ d. (c, d)) (upFrom c (n - c)) ∙ row-any (λ d. p (c, d)) c (n - c) (λ d s t. before c d (omega arith) s (omega arith))))
+    (any-flatMap p row (upFrom 0 (a - 0)) ∙ row-any (λ c. anyOf p (row c)) 0 (a - 0) (λ c q r. any-map p (λ d. (c, d)) (upFrom c (n - c)) ∙ row-any (λ d. p (c, d)) c (n - c) (λ d s t. before c d (omega arith) s (omega arith))))
     ∙ ap (λ (xs : List (ℕ × ℕ)). first p (xs ++ flatMap row (upFrom (suc a) (0 + n - suc a)))) (ap (map (λ d. (a, d))) (row-around a (n - a) b l (omega arith)) ∙ map-append (λ d. (a, d)) (upFrom a (b - a)) (b ∷ upFrom (suc b) (a + (n - a) - suc b)))
     ∙ ap (first p) (append-assoc (map (λ d. (a, d)) (upFrom a (b - a))) ((a, b) ∷ map (λ d. (a, d)) (upFrom (suc b) (a + (n - a) - suc b))) (flatMap row (upFrom (suc a) (0 + n - suc a))))
     ∙ first-found p (map (λ d. (a, d)) (upFrom a (b - a))) (a, b) _ (any-map p (λ d. (a, d)) (upFrom a (b - a)) ∙ row-any (λ d. p (a, d)) a (b - a) (λ d q r. beside d q (omega arith))) e
@@ -265,15 +283,15 @@ pairs-first p n a b l m before beside e =
 -- ---- counts and sums
 
 module _ {A : Type 0} where
-  pub count-append : (p : A → Bool) (xs ys : List A) → count p (xs ++ ys) ≡ count p xs + count p ys
-  unfolding count
-  count-append p [] ys = sym (zero-add (count p ys))
+  pub count-append : (p : A → Bool) (xs ys : List A) → countIf p (xs ++ ys) ≡ countIf p xs + countIf p ys
+  unfolding countIf
+  count-append p [] ys = sym (zero-add (countIf p ys))
   count-append p (x ∷ xs) ys = rw (count-append p xs ys) (omega arith)
 
-  pub count-flatMap : {B : Type 0} (p : A → Bool) (f : B → List A) (xs : List B) → count p (flatMap f xs) ≡ sumOf (λ x. count p (f x)) xs
-  unfolding count sumOf flatMap
+  pub count-flatMap : {B : Type 0} (p : A → Bool) (f : B → List A) (xs : List B) → countIf p (flatMap f xs) ≡ sumOf (λ x. countIf p (f x)) xs
+  unfolding countIf sumOf flatMap
   count-flatMap p f [] = refl
-  count-flatMap p f (x ∷ xs) = count-append p (f x) (flatMap f xs) ∙ ap (λ (n : ℕ). count p (f x) + n) (count-flatMap p f xs)
+  count-flatMap p f (x ∷ xs) = count-append p (f x) (flatMap f xs) ∙ ap (λ (n : ℕ). countIf p (f x) + n) (count-flatMap p f xs)
 
   pub sum-append : (f : A → ℕ) (xs ys : List A) → sumOf f (xs ++ ys) ≡ sumOf f xs + sumOf f ys
   unfolding sumOf
@@ -286,19 +304,45 @@ module _ {A : Type 0} where
   sum-add f g (x ∷ xs) = rw (sum-add f g xs) (omega arith)
 
   -- nothing passes exactly where the count is 0
-  pub count-none : (p : A → Bool) (xs : List A) → any p xs ≡ false → count p xs ≡ 0
-  unfolding any count
+  pub count-none : (p : A → Bool) (xs : List A) → anyOf p xs ≡ false → countIf p xs ≡ 0
+  unfolding anyOf countIf
   count-none p [] e = refl
-  count-none p (x ∷ xs) e = rw (or-false-left (p x) (any p xs) e, count-none p xs (or-false-right (p x) (any p xs) e))
+  count-none p (x ∷ xs) e = rw (or-false-left (p x) (anyOf p xs) e, count-none p xs (or-false-right (p x) (anyOf p xs) e))
 
-  pub none-count : (p : A → Bool) (xs : List A) → count p xs ≡ 0 → any p xs ≡ false
-  unfolding any count
+  pub none-count : (p : A → Bool) (xs : List A) → countIf p xs ≡ 0 → anyOf p xs ≡ false
+  unfolding anyOf countIf
   none-count p [] e = refl
   none-count p (x ∷ xs) e = pick (p x) e (none-count p xs)
     where
-      pick : (b : Bool) → cond b 1 0 + count p xs ≡ 0 → (count p xs ≡ 0 → any p xs ≡ false) → (b || any p xs) ≡ false
+      pick : (b : Bool) → cond b 1 0 + countIf p xs ≡ 0 → (countIf p xs ≡ 0 → anyOf p xs ≡ false) → (b || anyOf p xs) ≡ false
       pick true q ih = absurd (omega arith)
       pick false q ih = ih (omega arith)
+
+-- the count of a list put through f
+pub count-map : {A B : Type 0} (p : B → Bool) (f : A → B) (xs : List A) → countIf p (map f xs) ≡ countIf (λ x. p (f x)) xs
+unfolding countIf
+count-map p f [] = refl
+count-map p f (x ∷ xs) = ap (λ (n : ℕ). cond (p (f x)) 1 0 + n) (count-map p f xs)
+
+-- a test that nothing passes
+pub count-never : {A : Type 0} (p : A → Bool) (xs : List A) → ((x : A) → p x ≡ false) → countIf p xs ≡ 0
+unfolding countIf
+count-never p [] h = refl
+count-never p (x ∷ xs) h = rw (h x, count-never p xs h)
+
+-- the count of a row with one number more
+pub count-next : (p : ℕ → Bool) (n : ℕ) → countIf p (upFrom 0 (n + 1)) ≡ countIf p (upFrom 0 n) + cond (p n) 1 0
+unfolding countIf upFrom
+count-next p n =
+    let e : 0 + n ≡ n = omega arith in
+    ap (countIf p) (upFrom-split 0 n 1) ∙ count-append p (upFrom 0 n) ((0 + n) ∷ []) ∙ rw e (omega arith)
+
+-- which passes, or does not
+pub count-yes : (p : ℕ → Bool) (n : ℕ) → p n ≡ true → countIf p (upFrom 0 (n + 1)) ≡ countIf p (upFrom 0 n) + 1
+count-yes p n e = count-next p n ∙ rw e
+
+pub count-no : (p : ℕ → Bool) (n : ℕ) → p n ≡ false → countIf p (upFrom 0 (n + 1)) ≡ countIf p (upFrom 0 n)
+count-no p n e = count-next p n ∙ rw e (omega arith)
 
 -- two sums over a row that agree term by term
 pub sum-same : (f g : ℕ → ℕ) (a n : ℕ) → ((k : ℕ) → a ≤ k → k < a + n → f k ≡ g k) → sumOf f (upFrom a n) ≡ sumOf g (upFrom a n)

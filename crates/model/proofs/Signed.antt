@@ -1,13 +1,15 @@
 -- Signed numbers as differences of two naturals: `Is z a b` says that z is a - b. Sums, orders and equations of such numbers are then facts
 -- about naturals, which `omega` reads. Assumes nothing.
-use mathlib.Core.Path.{_≡_, sym, ap, _∙_}
-use mathlib.Core.Bool.{Bool, true, false, not}
-use Prim.Native.Nat.{ℕ, zero, suc, _+_, _-_, _*_, _%_, _≤_, _<_}
+use mathlib.Core.Path.{_≡_, refl, sym, ap, _∙_}
+use mathlib.Core.Bool.{Bool, true, false, not, _&&_, _||_}
+use Prim.Native.Nat.{ℕ, zero, suc, _+_, _-_, _*_, _%_, _^_, _≤_, _<_}
 use native.Mathlib.Omega.{arith}
-use lib.IntN.{ℤ, pos, negsuc, negℤ, subℕ, _+ℤ_, _-ℤ_, _*ℤ_}
+use lib.IntN.{ℤ, pos, negsuc, natAbs, negℤ, subℕ, _+ℤ_, _-ℤ_, _*ℤ_}
 use lib.Dec.{T, leb, ltb, ltb→lt, lt→ltb, nltb→le, leb→le, le→leb, nleb→lt}
-use lib.Signed.{leZ, ltZ, _≤ℤ_, _<ℤ_, leZ-yes, ltZ-yes}
-use borrow.Author.Tests.{lt-ltb, le-ltb, le-leb, lt-leb}
+use lib.Signed.{nonNeg, leZ, ltZ, _≤ℤ_, _<ℤ_, leZ-yes, ltZ-yes}
+use borrow.Author.Tests.{ltb-true, lt-ltb, le-ltb, le-leb, lt-leb}
+use mir.Syntax.{Width}
+use mir.Val.{Fits, bits}
 use Rattle.model.specs.Integers.{plus, minus, maxℤ}
 use Rattle.model.specs.Loop.{Dep}
 use Rattle.model.specs.File.{signedByte}
@@ -134,6 +136,50 @@ lt-of {a = a} {b = b} {c = c} {d = d} h k o = ltb→lt (a + d) (c + b) (rw (is-l
 
 pub of-lt : {x y : ℤ} {a b c d : ℕ} → Is x a b → Is y c d → a + d < c + b → x <ℤ y
 of-lt {a = a} {b = b} {c = c} {d = d} h k o = ltZ-yes (rw (is-ltZ h k) (lt→ltb (a + d) (c + b) o))
+
+-- ---- tests and casts
+
+-- at most is not above
+leb-not : (a b : ℕ) → leb a b ≡ not (ltb b a)
+leb-not a b =
+    by-test (ltb b a)
+    (λ t. let h : b < a = ltb→lt b a t in rw (lt-ltb b a h, lt-leb a b h))
+    (λ t. let h : a ≤ b = nltb→le b a t in rw (le-ltb b a h, le-leb a b h))
+
+pub leZ-not : (a b : ℤ) → leZ a b ≡ not (ltZ b a)
+leZ-not (pos m) (pos n) = leb-not m n
+leZ-not (pos m) (negsuc n) = refl
+leZ-not (negsuc m) (pos n) = refl
+leZ-not (negsuc m) (negsuc n) = leb-not n m
+
+not-both : (a b : Bool) → not (not a && not b) ≡ (a || b)
+not-both true b = refl
+not-both false true = refl
+not-both false false = refl
+
+-- outside a range: below it or above it
+pub outside-range : (a b z : ℤ) → not (leZ a z && leZ z b) ≡ (ltZ z a || ltZ b z)
+outside-range a b z = rw (leZ-not a z, leZ-not z b) (not-both (ltZ z a) (ltZ b z))
+
+-- a number below 0 is a difference of a smaller and a larger natural
+pub below-zero : {z : ℤ} {a b : ℕ} → Is z a b → ltZ z (pos 0) ≡ true → a < b
+below-zero {a = a} {b = b} h e = omega (arith, ltb-true (a + 0) (0 + b) (rw (is-ltZ h (is-pos 0)) at e))
+
+-- the cast of a number that is not below 0 is the difference itself
+cast′ : (z : ℤ) → ltZ z (pos 0) ≡ false → {a b : ℕ} → Is z a b → a ≡ natAbs z + b
+cast′ (pos n) e h = omega arith
+cast′ (negsuc n) e h = let z : _≡_ {A = ℕ} 0 1 = cc in absurd (omega arith)
+
+pub cast-is : {z : ℤ} {a b : ℕ} → Is z a b → ltZ z (pos 0) ≡ false → a ≡ natAbs z + b
+cast-is {z} h e = cast′ z e h
+
+-- and that cast is defined, where the width holds the difference
+fits′ : (w : Width) (z : ℤ) → ltZ z (pos 0) ≡ false → natAbs z < 2 ^ bits w → T (nonNeg z) × Fits w (natAbs z)
+fits′ w (pos n) e l = (tt, omega arith)
+fits′ w (negsuc n) e l = let z : _≡_ {A = ℕ} 0 1 = cc in absurd (omega arith)
+
+pub cast-fits : (w : Width) {z : ℤ} {a b : ℕ} → Is z a b → ltZ z (pos 0) ≡ false → a < b + 2 ^ bits w → T (nonNeg z) × Fits w (natAbs z)
+cast-fits w {z} h e l = fits′ w z e (omega (arith, cast-is h e))
 
 -- any number as a difference of its part above 0 and its part below, of which one is 0
 pub parts : (z : ℤ) → Is z (plus z) (minus z)

@@ -13,7 +13,7 @@ use lib.Arith.{digits-lt}
 use lib.ListN.{length, getD, set, take, replicate, length-set, length-replicate, getD-replicate}
 use lib.Pow.{pow-add}
 use lib.Seq.{ext-getD, getD-take, getD-set-same, getD-set-other, length-take-le, take-all}
-use Rattle.model.specs.Lists.{upFrom, any, count}
+use Rattle.model.specs.Lists.{upFrom, anyOf, countIf}
 use Rattle.model.specs.Loop.{Loop, size, opAt}
 use Rattle.model.specs.Legality.{Placing, Cell, sameCell}
 use Rattle.model.specs.Table.{countOf, number, rowNumber, tableOf, opCells, cellsOf, coveredAt, IsTable, digitOf, Digits}
@@ -23,22 +23,22 @@ use Rattle.model.proofs.Lists.{any-flatMap, count-append, count-none, n
 
 -- a cell in this slot and row adds one
 pub count-cell-same : (s r : ℕ) (c : Cell) (cells : List Cell) → c .slot ≡ s → c .row ≡ r → countOf s r (c ∷ cells) ≡ suc (countOf s r cells)
-unfolding count
+unfolding countIf
 count-cell-same s r c cells p q = rw (eq-eqb s (c .slot) (sym p), eq-eqb r (c .row) (sym q)) (omega arith)
 
 -- a cell in another slot adds nothing
 pub count-cell-slot : (s r : ℕ) (c : Cell) (cells : List Cell) → (c .slot ≡ s → ⊥) → countOf s r (c ∷ cells) ≡ countOf s r cells
-unfolding count
+unfolding countIf
 count-cell-slot s r c cells n = rw (ne-eqb s (c .slot) (λ e. n (sym e))) (zero-add (countOf s r cells))
 
 -- a cell in another row adds nothing
 pub count-cell-row : (s r : ℕ) (c : Cell) (cells : List Cell) → (c .row ≡ r → ⊥) → countOf s r (c ∷ cells) ≡ countOf s r cells
-unfolding count
+unfolding countIf
 count-cell-row s r c cells n = rw (ne-eqb r (c .row) (λ e. n (sym e)), and-false) (zero-add (countOf s r cells))
 
 -- where a cell stands in the list does not matter
 pub count-middle : (s r : ℕ) (c : Cell) (a b : List Cell) → countOf s r (c ∷ (a ++ b)) ≡ countOf s r (a ++ (c ∷ b))
-unfolding count
+unfolding countIf
 count-middle s r c a b = simp count-append (omega arith)
 
 -- ---- a number by its digits
@@ -115,13 +115,13 @@ row-append base r a b = simp count-append (number-add base (λ j. countOf (suc j
 
 -- without cells every row is 0
 pub row-nil : (base r : ℕ) → rowNumber base [] r ≡ 0
-unfolding rowNumber count
+unfolding rowNumber countIf
 row-nil base r = number-none base (λ j. countOf (suc j) r []) 24 (λ j l. refl)
 
 -- a cell adds base ^ (slot - 1) to its own row
 pub row-same : (base s r : ℕ) (c : Cell) (cells : List Cell) → c .slot ≡ s → c .row ≡ r → 1 ≤ s → s ≤ 24
     → rowNumber base (c ∷ cells) r ≡ rowNumber base cells r + base ^ (s - 1)
-unfolding rowNumber count
+unfolding rowNumber countIf
 row-same base s r c cells p q lo hi =
     row-append base r (c ∷ []) cells
     ∙ ap (λ (x : ℕ). x + rowNumber base cells r)
@@ -234,16 +234,16 @@ pub digit-count : (base ii s r : ℕ) (cells : List Cell) (rows : List ℕ) → 
 digit-count base ii s r cells rows t d l lo hi = rw (t .at r l) (row-digit base s r cells lo hi (λ u. d u r))
 
 -- a count of at most 1 says whether there is one
-count-any : {A : Type 0} (p : A → Bool) (xs : List A) → count p xs ≤ 1 → count p xs ≡ cond (any p xs) 1 0
-count-any p xs l = pick (any p xs) refl
+count-any : {A : Type 0} (p : A → Bool) (xs : List A) → countIf p xs ≤ 1 → countIf p xs ≡ cond (anyOf p xs) 1 0
+count-any p xs l = pick (anyOf p xs) refl
   where
-    pick : (b : Bool) → any p xs ≡ b → count p xs ≡ cond b 1 0
+    pick : (b : Bool) → anyOf p xs ≡ b → countIf p xs ≡ cond b 1 0
     pick false e = count-none p xs e
-    pick true e = some-one (ℕ-discrete (count p xs) 0)
+    pick true e = some-one (ℕ-discrete (countIf p xs) 0)
       where
-        some-one : Dec (count p xs ≡ 0) → count p xs ≡ 1
+        some-one : Dec (countIf p xs ≡ 0) → countIf p xs ≡ 1
         some-one (yes z) =
-            let f : any p xs ≡ false = none-count p xs z in let w : _≡_ {A = ℕ} 0 1 = cc in absurd (omega arith)
+            let f : anyOf p xs ≡ false = none-count p xs z in let w : _≡_ {A = ℕ} 0 1 = cc in absurd (omega arith)
         some-one (no z) = omega arith
 
 -- in base 2 a bit is 1 exactly where a placed operation covers that slot and row

@@ -1,6 +1,6 @@
 -- Laws of lists of calls: what checkpoints keep, and the placed operations placed again in any order. Assumes nothing.
 use mathlib.Core.Path.{_≡_, refl, sym, ap, _∙_, subst, fun-ext}
-use mathlib.Core.Bool.{Bool, true, false, cond, _||_}
+use mathlib.Core.Bool.{Bool, true, false, cond}
 use mathlib.Core.List.{List, [], _∷_, _++_, flatMap}
 use mathlib.Core.Option.{Option, none, some}
 use Prim.Native.Nat.{ℕ, _+_, _-_, _≤_, _<_}
@@ -10,12 +10,12 @@ use borrow.Author.Tests.{lt-leb, eq-eqb, ne-eqb, eqb-true, eqb-false}
 use lib.Dec.{eqb}
 use lib.ListN.{length, getD, set, take, replicate, length-append, length-take, length-set, length-replicate, List·getD-append, List·getD-eq-default}
 use lib.Seq.{getD-set-same, getD-set-other, getD-take, take-take, take-append-le, ext-getD}
-use Rattle.model.specs.Lists.{upFrom, any}
+use Rattle.model.specs.Lists.{upFrom, anyOf}
 use Rattle.model.specs.Refusals.{Refusal, firstRefusal, Answer, answered, settled}
 use Rattle.model.specs.Loop.{size, opAt, depAt}
-use Rattle.model.specs.Legality.{Placing, legalAt, placeAt, breaks, conflictsWith, fitsAt}
+use Rattle.model.specs.Legality.{Placing, selfConflict, legalAt, placeAt, breaks, firstBreach, conflictsWith, conflicts, fitsAt}
 use Rattle.model.specs.Table.{opCells, cellsOf, tableOf}
-use Rattle.model.specs.Session.{Setup, Starts, State, start, placedIn, stateTable, Call, place, force, remove, checkpoint, release, rollback, Reply, done, numbered, isPlaced, firstBroken, selfClash, nowhere, checks, effect, stepAs, step, after, replies}
+use Rattle.model.specs.Session.{Setup, Starts, State, start, placedIn, stateTable, Call, place, force, remove, checkpoint, release, rollback, Reply, done, numbered, isPlaced, nowhere, checks, effect, stepAs, step, after, replies}
 use Rattle.model.specs.Undo.{gives, NoneGives, markedBy, startOr, placings, times, OrderOf, AllDone}
 use Rattle.model.proofs.Lists.{getD-filled, and-right, or-both, row-any, first-none}
 use Rattle.model.proofs.Legality.{Fits, fits-parts, Part, legal-part, legal-place}
@@ -153,7 +153,7 @@ placed-set ys o t l = fun-ext (λ p. go p (ℕ-discrete p o))
 pub place-done : (u : Setup) (st : State) (o t : ℕ) → o < size (u .loop) → getD (st .starts) o none ≡ none → t < u .horizon
     → fitsAt (u .loop) (u .ii) (placedIn (st .starts)) o t ≡ true
     → step u (place o t) st ≡ (record { starts = set (st .starts) o (some t); checkpoints = st .checkpoints }, answered done)
-unfolding firstRefusal firstBroken
+unfolding firstRefusal firstBreach
 place-done u st o t inside free near fits =
     step-done u (place o t) st (rw (lt-leb (size (u .loop)) o inside, free, lt-leb (u .horizon) t near, unbroken, clear))
   where
@@ -163,14 +163,14 @@ place-done u st o t inside free near fits =
     parts : Fits (u .loop) (u .ii) (placedIn (st .starts)) o t
     parts = fits-parts (u .loop) (u .ii) f o t fits
 
-    unbroken : firstBroken u (placedIn (st .starts)) o t ≡ none
+    unbroken : firstBreach (u .loop) (u .ii) (placedIn (st .starts)) o t ≡ none
     unbroken =
         first-none (λ e. breaks (u .ii) f o t (depAt (u .loop) e)) (upFrom 0 (length (u .loop .deps)))
         (row-any (λ e. breaks (u .ii) f o t (depAt (u .loop) e)) 0 (length (u .loop .deps)) (λ e l m. parts .kept e (omega arith)))
 
-    clear : (selfClash u o || any (conflictsWith (u .loop) (u .ii) (placedIn (st .starts)) o t) (upFrom 0 (size (u .loop)))) ≡ false
+    clear : conflicts (u .loop) (u .ii) (placedIn (st .starts)) o t ≡ false
     clear =
-        or-both (selfClash u o) (any (conflictsWith (u .loop) (u .ii) f o t) (upFrom 0 (size (u .loop)))) (parts .self)
+        or-both (selfConflict (u .ii) (opAt (u .loop) o)) (anyOf (conflictsWith (u .loop) (u .ii) f o t) (upFrom 0 (size (u .loop)))) (parts .self)
         (row-any (conflictsWith (u .loop) (u .ii) f o t) 0 (size (u .loop)) (λ p l m. parts .clear p (omega arith)))
 
 -- ---- the placed operations, placed again

@@ -6,19 +6,18 @@ use mathlib.Core.Option.{Option, none, some}
 use Prim.Native.Nat.{ℕ, _≤_}
 use native.Mathlib.Omega.{arith}
 use lib.ListN.{length}
-use Rattle.model.specs.Lists.{upFrom, pairs, any, first}
+use Rattle.model.specs.Lists.{upFrom, pairs, anyOf}
 use Rattle.model.specs.Loop.{Loop, size, depAt, LoopOk}
-use Rattle.model.specs.Legality.{placed, broken, meets, pairConflict, apart, legalAt}
-use Rattle.model.specs.Legality as legality
+use Rattle.model.specs.Legality.{placed, broken, meets, pairConflict, apart, legalAt, legal}
 use Rattle.model.specs.Table.{countOf, cellsOf}
-use Rattle.model.specs.Verifier.{legal, breach, judge, verdict}
+use Rattle.model.specs.Verifier.{isLegal, breach, judge, firstBroken, firstPair, verdict}
 use Rattle.model.proofs.Lists.{false-not, and-left, and-right, and-both, any-row, row-any, first-none, none-first}
 use Rattle.model.proofs.Legality.{meets-each, each-meets}
 use Rattle.model.proofs.Conflicts.{apart-once, once-apart}
 use borrow.Author.Tests.{not-true}
 
 -- a verdict is legal only where neither a dependence nor a pair is found
-none-found : (d : Option ℕ) (p : Option (ℕ × ℕ)) → judge d p ≡ legal → (d ≡ none) × (p ≡ none)
+none-found : (d : Option ℕ) (p : Option (ℕ × ℕ)) → judge d p ≡ isLegal → (d ≡ none) × (p ≡ none)
 none-found none none e = (refl, refl)
 none-found none (some p) e = let z : _≡_ {A = ℕ} 0 1 = cc in absurd (omega arith)
 none-found (some x) none e = let z : _≡_ {A = ℕ} 0 1 = cc in absurd (omega arith)
@@ -30,43 +29,41 @@ breach-judged e none = refl
 breach-judged e (some p) = refl
 
 module _ (l : Loop) (ii : ℕ) (xs : List ℕ) where
-  -- the test of dependence e, and of a pair
+  -- the test of dependence e
   abbrev dep-test : ℕ → Bool
   dep-test e = broken ii (placed xs) (depAt l e)
 
   -- dependences come before conflicts
-  pub breach-first : (e : ℕ) → first dep-test (upFrom 0 (length (l .deps))) ≡ some e → verdict l ii xs ≡ breach e
+  pub breach-first : (e : ℕ) → firstBroken l ii xs ≡ some e → verdict l ii xs ≡ breach e
   unfolding verdict
-  breach-first e h =
-      let p = first (pairConflict l ii (placed xs)) (pairs (size l)) in
-      ap (λ (d : Option ℕ). judge d p) h ∙ breach-judged e p
+  breach-first e h = ap (λ (d : Option ℕ). judge d (firstPair l ii xs)) h ∙ breach-judged e (firstPair l ii xs)
 
   -- what is judged legal is legal
-  pub verdict-legal : verdict l ii xs ≡ legal → legality.legal l ii xs ≡ true
-  unfolding verdict legalAt apart
+  pub verdict-legal : verdict l ii xs ≡ isLegal → legal l ii xs ≡ true
+  unfolding verdict firstBroken firstPair legalAt apart
   verdict-legal e =
-      let f = none-found (first dep-test (upFrom 0 (length (l .deps)))) (first (pairConflict l ii (placed xs)) (pairs (size l))) e in
-      and-both (meets l ii (placed xs)) (not (any (pairConflict l ii (placed xs)) (pairs (size l))))
+      let f = none-found (firstBroken l ii xs) (firstPair l ii xs) e in
+      and-both (meets l ii (placed xs)) (not (anyOf (pairConflict l ii (placed xs)) (pairs (size l))))
       (each-meets l ii (placed xs) (λ k m. any-row dep-test 0 (length (l .deps)) k (none-first dep-test (upFrom 0 (length (l .deps))) (f .0)) (omega arith) (omega arith)))
-      (false-not (any (pairConflict l ii (placed xs)) (pairs (size l))) (none-first (pairConflict l ii (placed xs)) (pairs (size l)) (f .1)))
+      (false-not (anyOf (pairConflict l ii (placed xs)) (pairs (size l))) (none-first (pairConflict l ii (placed xs)) (pairs (size l)) (f .1)))
 
   -- and the other way round
-  pub legal-verdict : legality.legal l ii xs ≡ true → verdict l ii xs ≡ legal
-  unfolding verdict legalAt apart
+  pub legal-verdict : legal l ii xs ≡ true → verdict l ii xs ≡ isLegal
+  unfolding verdict firstBroken firstPair legalAt apart
   legal-verdict h =
-      let m : meets l ii (placed xs) ≡ true = and-left (meets l ii (placed xs)) (not (any (pairConflict l ii (placed xs)) (pairs (size l)))) h in
-      let a : not (any (pairConflict l ii (placed xs)) (pairs (size l))) ≡ true = and-right (meets l ii (placed xs)) (not (any (pairConflict l ii (placed xs)) (pairs (size l)))) h in
+      let m : meets l ii (placed xs) ≡ true = and-left (meets l ii (placed xs)) (not (anyOf (pairConflict l ii (placed xs)) (pairs (size l)))) h in
+      let a : not (anyOf (pairConflict l ii (placed xs)) (pairs (size l))) ≡ true = and-right (meets l ii (placed xs)) (not (anyOf (pairConflict l ii (placed xs)) (pairs (size l)))) h in
       ap₂ judge
       (first-none dep-test (upFrom 0 (length (l .deps))) (row-any dep-test 0 (length (l .deps)) (λ k p q. meets-each l ii (placed xs) m k (omega arith))))
-      (first-none (pairConflict l ii (placed xs)) (pairs (size l)) (not-true (any (pairConflict l ii (placed xs)) (pairs (size l))) a))
+      (first-none (pairConflict l ii (placed xs)) (pairs (size l)) (not-true (anyOf (pairConflict l ii (placed xs)) (pairs (size l))) a))
 
   -- a legal list meets its dependences, and no cell of its table occurs twice
-  pub legal-once : LoopOk l → legality.legal l ii xs ≡ true → (meets l ii (placed xs) ≡ true) × ((s r : ℕ) → countOf s r (cellsOf l ii (placed xs)) ≤ 1)
+  pub legal-once : LoopOk l → legal l ii xs ≡ true → (meets l ii (placed xs) ≡ true) × ((s r : ℕ) → countOf s r (cellsOf l ii (placed xs)) ≤ 1)
   unfolding legalAt
   legal-once ok h =
       (and-left (meets l ii (placed xs)) (apart l ii (placed xs)) h, apart-once l ii (placed xs) ok (and-right (meets l ii (placed xs)) (apart l ii (placed xs)) h))
 
   -- and the other way round
-  pub once-legal : LoopOk l → 1 ≤ ii → meets l ii (placed xs) ≡ true → ((s r : ℕ) → countOf s r (cellsOf l ii (placed xs)) ≤ 1) → legality.legal l ii xs ≡ true
+  pub once-legal : LoopOk l → 1 ≤ ii → meets l ii (placed xs) ≡ true → ((s r : ℕ) → countOf s r (cellsOf l ii (placed xs)) ≤ 1) → legal l ii xs ≡ true
   unfolding legalAt
   once-legal ok pos m o = and-both (meets l ii (placed xs)) (apart l ii (placed xs)) m (once-apart l ii (placed xs) ok pos o)

@@ -11,7 +11,7 @@ use Rattle.model.specs.File.{readFile}
 use Rattle.model.specs.Bounds.{Lower, BoundsIs}
 use Rattle.model.specs.Search.{Request, Outcome, found, ended, SearchIs, Line, listing}
 use Rattle.model.specs.Session.{Setup, Starts, Call, place, force, remove, checkpoint, rollback, Reply, done, displaced, numbered, start, after, replies, openFile, stateTable}
-use Rattle.model.specs.Verifier.{Verdict, legal, breach, clash, verifyFile}
+use Rattle.model.specs.Verifier.{Verdict, isLegal, breach, clash, verifyFile}
 
 -- ---- what a case claims
 
@@ -146,12 +146,12 @@ starred =
     -- 1
     ∷ bounded fileA (bothAre 2 3)
     -- 2
-    ∷ judged fileA 3 (0 ∷ 2 ∷ 5 ∷ []) (answered legal)
+    ∷ judged fileA 3 (0 ∷ 2 ∷ 5 ∷ []) (answered isLegal)
     ∷ judged fileA 3 (0 ∷ 2 ∷ 4 ∷ []) (answered (breach 1))
     -- 3
-    ∷ judged fileB 2 (0 ∷ 3 ∷ []) (answered legal)
+    ∷ judged fileB 2 (0 ∷ 3 ∷ []) (answered isLegal)
     ∷ judged fileB 3 (0 ∷ 3 ∷ []) (answered (clash 0 1))
-    ∷ judged fileB 4 (0 ∷ 3 ∷ []) (answered legal)
+    ∷ judged fileB 4 (0 ∷ 3 ∷ []) (answered isLegal)
     -- 4; the stage count is 5 divided by 4, rounded up
     ∷ searched fileB2 (record { cap = 4; horizon = 8; budget = 1000000 }) (foundAt 4 3 1 2 78 (0 ∷ 3 ∷ 0 ∷ []))
     -- 5, not starred: 11 and 10; and the budget spent exactly, at the answer and at the end of an interval
@@ -176,7 +176,7 @@ starred =
     ∷ bounded (ring 4 1 5 1) (bothAre 1 5)
     -- 10
     ∷ judged four 3 (0 ∷ []) (answered (clash 0 0))
-    ∷ judged four 4 (0 ∷ []) (answered legal)
+    ∷ judged four 4 (0 ∷ []) (answered isLegal)
     -- 11
     ∷ called fileA 3 256 (place 0 0 ∷ place 1 2 ∷ []) (answered done ∷ answered done ∷ []) (some 0 ∷ some 2 ∷ none ∷ []) (3 ∷ 0 ∷ 2 ∷ [])
     ∷ called fileA 3 256 (place 0 0 ∷ place 1 2 ∷ remove 0 ∷ []) (answered done ∷ answered done ∷ answered done ∷ [])

@@ -5,10 +5,10 @@ use mathlib.Core.Option.{Option, none, some}
 use Prim.Native.Nat.{ℕ, _+_, _*_, _%_}
 use lib.Dec.{eqb, leb, ltb}
 use lib.IntN.{ℤ, pos, _+ℤ_}
-use lib.ListN.{getElem?}
+use lib.ListN.{length, getElem?}
 use lib.Signed.{leZ}
-use Rattle.model.specs.Lists.{upFrom, pairs, any}
-use Rattle.model.specs.Loop.{Use, Op, Dep, Loop, size, opAt}
+use Rattle.model.specs.Lists.{upFrom, pairs, anyOf, first}
+use Rattle.model.specs.Loop.{Use, Op, Dep, Loop, size, opAt, depAt}
 
 -- a start for each placed operation, by its number
 abbrev pub Placing : Type 0
@@ -36,7 +36,7 @@ broken ii f d = brokenAt ii d (f (d .src)) (f (d .dst))
 
 -- the placing meets every dependence
 unfoldable pub meets : Loop → ℕ → Placing → Bool
-meets l ii f = not (any (broken ii f) (l .deps))
+meets l ii f = not (anyOf (broken ii f) (l .deps))
 
 -- ---- cells
 
@@ -66,7 +66,7 @@ footprint ii p s = flatMap (λ k. cellsIn ((s + k) % ii) k (p .uses)) (upFrom 0 
 
 -- two lists of cells have one in common
 unfoldable pub share : List Cell → List Cell → Bool
-share xs ys = any (λ c. any (sameCell c) ys) xs
+share xs ys = anyOf (λ c. anyOf (sameCell c) ys) xs
 
 -- p started at s conflicts with q started at t: a use of each covers the same slot in the same row
 unfoldable pub conflict : ℕ → Op → ℕ → Op → ℕ → Bool
@@ -74,7 +74,7 @@ conflict ii p s q t = share (footprint ii p s) (footprint ii q t)
 
 -- an operation conflicts with itself: a use of it is longer than the interval
 unfoldable pub selfConflict : ℕ → Op → Bool
-selfConflict ii p = any (λ u. ltb ii (u .duration)) (p .uses)
+selfConflict ii p = anyOf (λ u. ltb ii (u .duration)) (p .uses)
 
 -- the same for operations that may not be placed
 abbrev pub conflictAt : ℕ → Op → Option ℕ → Op → Option ℕ → Bool
@@ -94,7 +94,7 @@ pairConflict l ii f ab =
 
 -- no operation conflicts with another or with itself
 unfoldable pub apart : Loop → ℕ → Placing → Bool
-apart l ii f = not (any (pairConflict l ii f) (pairs (size l)))
+apart l ii f = not (anyOf (pairConflict l ii f) (pairs (size l)))
 
 -- ---- legal
 
@@ -120,11 +120,18 @@ touches o d = eqb (d .src) o || eqb (d .dst) o
 abbrev pub breaks : ℕ → Placing → ℕ → ℕ → Dep → Bool
 breaks ii f o t d = touches o d && broken ii (placeAt f o t) d
 
+-- the first such dependence
+unfoldable pub firstBreach : Loop → ℕ → Placing → ℕ → ℕ → Option ℕ
+firstBreach l ii f o t = first (λ e. breaks ii f o t (depAt l e)) (upFrom 0 (length (l .deps)))
+
 -- operation o at t conflicts with the placed operation p, another one
 abbrev pub conflictsWith : Loop → ℕ → Placing → ℕ → ℕ → ℕ → Bool
 conflictsWith l ii f o t p = not (eqb p o) && conflictAt ii (opAt l o) (some t) (opAt l p) (f p)
 
+-- operation o at t conflicts with itself or with a placed operation, another one
+abbrev pub conflicts : Loop → ℕ → Placing → ℕ → ℕ → Bool
+conflicts l ii f o t = selfConflict ii (opAt l o) || anyOf (conflictsWith l ii f o t) (upFrom 0 (size l))
+
 -- operation o fits at t: no dependence with itself or a placed operation is broken, no conflict with itself or one of those
 unfoldable pub fitsAt : Loop → ℕ → Placing → ℕ → ℕ → Bool
-fitsAt l ii f o t =
-    not (any (breaks ii f o t) (l .deps)) && not (selfConflict ii (opAt l o) || any (conflictsWith l ii f o t) (upFrom 0 (size l)))
+fitsAt l ii f o t = not (anyOf (breaks ii f o t) (l .deps)) && not (conflicts l ii f o t)

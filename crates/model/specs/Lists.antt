@@ -2,7 +2,8 @@
 use mathlib.Core.Bool.{Bool, false, _||_, cond}
 use mathlib.Core.List.{List, [], _∷_, map, flatMap}
 use mathlib.Core.Option.{Option, none, some}
-use Prim.Native.Nat.{ℕ, zero, suc, _+_, _-_, max}
+use Prim.Native.Nat.{ℕ, zero, suc, _+_, _-_, _<_, max}
+use lib.ListN.{length, getD}
 
 -- a, a + 1, ..: k numbers
 unfoldable pub upFrom : ℕ → ℕ → List ℕ
@@ -13,11 +14,15 @@ upFrom a (suc k) = a ∷ upFrom (suc a) k
 unfoldable pub pairs : ℕ → List (ℕ × ℕ)
 pairs n = flatMap (λ a. map (λ b. (a, b)) (upFrom a (n - a))) (upFrom 0 n)
 
+-- every number of the list is below h
+abbrev pub Below : ℕ → List ℕ → Type 0
+Below h xs = (i : ℕ) → i < length xs → getD xs i 0 < h
+
 module _ {A : Type 0} where
   -- whether some element passes
-  unfoldable pub any : (A → Bool) → List A → Bool
-  any p [] = false
-  any p (x ∷ xs) = p x || any p xs
+  unfoldable pub anyOf : (A → Bool) → List A → Bool
+  anyOf p [] = false
+  anyOf p (x ∷ xs) = p x || anyOf p xs
 
   -- the first element that passes
   unfoldable pub first : (A → Bool) → List A → Option A
@@ -25,9 +30,9 @@ module _ {A : Type 0} where
   first p (x ∷ xs) = cond (p x) (some x) (first p xs)
 
   -- how many elements pass
-  unfoldable pub count : (A → Bool) → List A → ℕ
-  count p [] = 0
-  count p (x ∷ xs) = cond (p x) 1 0 + count p xs
+  unfoldable pub countIf : (A → Bool) → List A → ℕ
+  countIf p [] = 0
+  countIf p (x ∷ xs) = cond (p x) 1 0 + countIf p xs
 
   -- the sum of f over the list
   unfoldable pub sumOf : (A → ℕ) → List A → ℕ

@@ -1,8 +1,9 @@
 -- Refusals, and the rule that the first one met is the answer. Assumes nothing.
-use mathlib.Core.Bool.{Bool, cond}
+use mathlib.Core.Bool.{Bool, true, false, cond, _||_}
 use mathlib.Core.List.{List, [], _∷_}
 use mathlib.Core.Option.{Option, none, some}
 use Prim.Native.Nat.{ℕ}
+use lib.Dec.{ltb}
 
 -- a refusal: its number in document 01's table, and its detail
 pub record Refusal : Type 0 where
@@ -17,6 +18,19 @@ pub record Check : Type 0 where
 -- the check that gives `number` at `detail` where it fails
 abbrev pub check : Bool → ℕ → ℕ → Check
 check fails number detail = record { fails = fails; gives = record { number = number; detail = detail } }
+
+-- the check that gives `number` where something is found, at that detail
+abbrev pub ifFound : ℕ → Option ℕ → Check
+ifFound number none = check false number 0
+ifFound number (some d) = check true number d
+
+-- x is not one of 1 .. most
+abbrev pub outside : ℕ → ℕ → Bool
+outside most x = ltb x 1 || ltb most x
+
+-- 7: the number of this field is not one of 1 .. most
+abbrev pub range : (field most x : ℕ) → Check
+range field most x = check (outside most x) 7 field
 
 -- the first refusal met; none where no check fails
 unfoldable pub firstRefusal : List Check → Option Refusal

@@ -6,8 +6,9 @@ use mathlib.Core.Option.{Option, none, some}
 use Prim.Native.Nat.{ℕ, zero, suc, _+_, _-_, _/_, _%_, max}
 use lib.Dec.{eqb, ltb}
 use lib.ListN.{length, getD, take, drop, replicate}
-use Rattle.model.specs.Lists.{upFrom, first, count, maxOf}
-use Rattle.model.specs.Refusals.{Refusal, Check, check, firstRefusal, Answer, answered, refused}
+use Rattle.model.specs.Lists.{upFrom, first, countIf, maxOf}
+use Rattle.model.specs.Integers.{ceilDiv}
+use Rattle.model.specs.Refusals.{Refusal, Check, check, range, firstRefusal, Answer, answered, refused}
 use Rattle.model.specs.Loop.{Loop, size, opAt}
 use Rattle.model.specs.File.{fileChecks, loopOf}
 use Rattle.model.specs.Legality.{legal}
@@ -46,7 +47,7 @@ tried L a q = L (dropLast q) && reached a q
 
 -- the number of probes
 unfoldable pub probes : (List ℕ → Bool) → ℕ → ℕ → ℕ
-probes L h n = count (tried L (answer L h n)) (words h n)
+probes L h n = countIf (tried L (answer L h n)) (words h n)
 
 -- ---- stages (source document 000)
 
@@ -70,7 +71,7 @@ earlier ii xs o p =
 
 -- the order of operation o in its stage
 unfoldable pub orderOf : ℕ → List ℕ → ℕ → ℕ
-orderOf ii xs o = count (earlier ii xs o) (upFrom 0 (length xs))
+orderOf ii xs o = countIf (earlier ii xs o) (upFrom 0 (length xs))
 
 -- what a listing says of operation o
 pub record Line : Type 0 where
@@ -86,10 +87,6 @@ lineOf ii xs o = record { start-at = startOf xs o; stage-of = stage ii (startOf 
 -- the lines of all operations, in number order
 unfoldable pub listing : ℕ → List ℕ → List Line
 listing ii xs = map (lineOf ii xs) (upFrom 0 (length xs))
-
--- a divided by b, rounded up
-abbrev pub ceilDiv : ℕ → ℕ → ℕ
-ceilDiv a b = (a + (b - 1)) / b
 
 -- the largest start + latency
 unfoldable pub lastEnd : Loop → List ℕ → ℕ
@@ -107,14 +104,10 @@ pub record Request : Type 0 where
   pub horizon : ℕ
   pub budget : ℕ
 
--- x is not one of 1 .. most
-abbrev pub outside : ℕ → ℕ → Bool
-outside most x = ltb x 1 || ltb most x
-
 -- 7, in field order
 unfoldable pub requestChecks : Request → List Check
 requestChecks q =
-    check (outside 4096 (q .cap)) 7 1 ∷ check (outside 4096 (q .horizon)) 7 2 ∷ check (outside 1000000 (q .budget)) 7 3 ∷ []
+    range 1 4096 (q .cap) ∷ range 2 4096 (q .horizon) ∷ range 3 1000000 (q .budget) ∷ []
 
 -- 20: the output list, of which there is to be a number for each operation, then the scratch table, of which 4,096 rows are used
 unfoldable pub roomChecks : Loop → ℕ → ℕ → List Check

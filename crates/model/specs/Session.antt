@@ -5,13 +5,12 @@ use mathlib.Core.Option.{Option, none, some}
 use Prim.Native.Nat.{ℕ, _+_, _-_, _^_}
 use lib.Dec.{eqb, leb, ltb}
 use lib.ListN.{length, getD, set, take, drop, replicate}
-use Rattle.model.specs.Lists.{upFrom, any, first, sumOf}
-use Rattle.model.specs.Refusals.{Check, check, Answer, answered, refused, settle}
-use Rattle.model.specs.Loop.{Loop, size, opAt, depAt}
+use Rattle.model.specs.Lists.{upFrom, anyOf, sumOf}
+use Rattle.model.specs.Refusals.{Check, check, ifFound, range, Answer, answered, refused, settle}
+use Rattle.model.specs.Loop.{Loop, size, opAt}
 use Rattle.model.specs.File.{fileChecks, loopOf}
-use Rattle.model.specs.Legality.{Placing, selfConflict, touches, breaks, conflictsWith}
+use Rattle.model.specs.Legality.{Placing, selfConflict, touches, breaks, firstBreach, conflictsWith, conflicts}
 use Rattle.model.specs.Table.{tableAt}
-use Rattle.model.specs.Search.{outside}
 
 -- ---- opening
 
@@ -24,7 +23,7 @@ pub record Setup : Type 0 where
 -- 1 to 6, 7, 20, for a file, an interval, a horizon and a lent table of `rows` rows
 unfoldable pub openChecks : List ℕ → ℕ → ℕ → ℕ → List Check
 openChecks f ii horizon rows =
-    fileChecks f ++ (check (outside 4096 ii) 7 1 ∷ check (outside 4096 horizon) 7 2 ∷ check (ltb rows ii) 20 rows ∷ [])
+    fileChecks f ++ (range 1 4096 ii ∷ range 2 4096 horizon ∷ check (ltb rows ii) 20 rows ∷ [])
 
 -- the answer for any file, numbers and table
 unfoldable pub openFile : List ℕ → ℕ → ℕ → ℕ → Answer Setup
@@ -95,18 +94,9 @@ taken st o = check (isPlaced (getD (st .starts) o none)) 13 o
 abbrev pub late : Setup → ℕ → ℕ → Check
 late u o t = check (leb (u .horizon) t) 15 o
 
--- the first dependence of o with itself or an operation of f that o at t breaks
-unfoldable pub firstBroken : Setup → Placing → ℕ → ℕ → Option ℕ
-firstBroken u f o t = first (λ e. breaks (u .ii) f o t (depAt (u .loop) e)) (upFrom 0 (length (u .loop .deps)))
-
--- a dependence broken: the first is the detail
-abbrev pub breach : Option ℕ → Check
-breach none = check false 16 0
-breach (some e) = check true 16 e
-
--- the operation conflicts with itself
-abbrev pub selfClash : Setup → ℕ → Bool
-selfClash u o = selfConflict (u .ii) (opAt (u .loop) o)
+-- a dependence of o with itself or an operation of f broken by o at t: the first is the detail
+abbrev pub unmet : Setup → Placing → ℕ → ℕ → Check
+unmet u f o t = ifFound 16 (firstBreach (u .loop) (u .ii) f o t)
 
 -- no operation is placed
 abbrev pub nowhere : Placing
@@ -116,11 +106,12 @@ nowhere p = none
 abbrev pub checks : Setup → Call → State → List Check
 checks u (place o t) st =
     absent u o ∷ taken st o ∷ late u o t
-    ∷ breach (firstBroken u (placedIn (st .starts)) o t)
-    ∷ check (selfClash u o || any (conflictsWith (u .loop) (u .ii) (placedIn (st .starts)) o t) (upFrom 0 (size (u .loop)))) 17 0
+    ∷ unmet u (placedIn (st .starts)) o t ∷ check (conflicts (u .loop) (u .ii) (placedIn (st .starts)) o t) 17 0
     ∷ []
 checks u (force o t) st =
-    absent u o ∷ taken st o ∷ late u o t ∷ breach (firstBroken u nowhere o t) ∷ check (selfClash u o) 17 0 ∷ []
+    absent u o ∷ taken st o ∷ late u o t
+    ∷ unmet u nowhere o t ∷ check (selfConflict (u .ii) (opAt (u .loop) o)) 17 0
+    ∷ []
 checks u (remove o) st = absent u o ∷ check (not (isPlaced (getD (st .starts) o none))) 14 o ∷ []
 checks u checkpoint st = check (leb 16 (length (st .checkpoints))) 18 0 ∷ []
 checks u release st = check (eqb (length (st .checkpoints)) 0) 19 0 ∷ []
@@ -132,7 +123,7 @@ checks u (rollback m) st = check (eqb m 0 || ltb (length (st .checkpoints)) m) 1
 unfoldable pub inTheWay : Setup → Starts → ℕ → ℕ → ℕ → Bool
 inTheWay u xs o t p =
     isPlaced (getD xs p none)
-    && (conflictsWith (u .loop) (u .ii) (placedIn xs) o t p || any (λ d. touches p d && breaks (u .ii) (placedIn xs) o t d) (u .loop .deps))
+    && (conflictsWith (u .loop) (u .ii) (placedIn xs) o t p || anyOf (λ d. touches p d && breaks (u .ii) (placedIn xs) o t d) (u .loop .deps))
 
 -- the starts without those of the operations in the way
 unfoldable pub without : Setup → Starts → ℕ → ℕ → Starts

@@ -5,13 +5,13 @@ use mathlib.Core.List.{List, [], map, flatMap}
 use mathlib.Core.Option.{Option, none, some}
 use Prim.Native.Nat.{ℕ, zero, suc, _+_, _-_, _*_, _/_, _%_, _^_, _≤_, _<_}
 use lib.ListN.{length, getD}
-use Rattle.model.specs.Lists.{upFrom, any, count}
+use Rattle.model.specs.Lists.{upFrom, anyOf, countIf}
 use Rattle.model.specs.Loop.{Op, Loop, size, opAt}
 use Rattle.model.specs.Legality.{Placing, Cell, sameCell, footprint}
 
 -- how often slot s in row r stands among the cells
 abbrev pub countOf : ℕ → ℕ → List Cell → ℕ
-countOf s r cells = count (sameCell (record { slot = s; row = r })) cells
+countOf s r cells = countIf (sameCell (record { slot = s; row = r })) cells
 
 -- f 0 + f 1 * base + .. + f (n - 1) * base ^ (n - 1)
 unfoldable pub number : ℕ → (ℕ → ℕ) → ℕ → ℕ
@@ -41,7 +41,7 @@ tableAt l ii f = tableOf 2 ii (cellsOf l ii f)
 
 -- whether a placed operation covers slot s in row r
 unfoldable pub coveredAt : Loop → ℕ → Placing → (s r : ℕ) → Bool
-coveredAt l ii f s r = any (λ o. any (sameCell (record { slot = s; row = r })) (opCells ii (opAt l o) (f o))) (upFrom 0 (size l))
+coveredAt l ii f s r = anyOf (λ o. anyOf (sameCell (record { slot = s; row = r })) (opCells ii (opAt l o) (f o))) (upFrom 0 (size l))
 
 -- ---- the same, row by row
 

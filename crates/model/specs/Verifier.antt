@@ -1,46 +1,46 @@
 -- The verifier of a proposed list of starts (document 01: the judge). Assumes nothing.
-use mathlib.Core.Bool.{true, false}
 use mathlib.Core.List.{List, [], _∷_, _++_}
 use mathlib.Core.Option.{Option, none, some}
 use Prim.Native.Nat.{ℕ}
 use lib.Dec.{leb, ltb}
 use lib.ListN.{length, getD, take}
 use Rattle.model.specs.Lists.{upFrom, pairs, first}
-use Rattle.model.specs.Refusals.{Check, check, Answer, settle}
+use Rattle.model.specs.Refusals.{Check, check, ifFound, range, Answer, settle}
 use Rattle.model.specs.Loop.{Loop, size, depAt}
 use Rattle.model.specs.File.{fileChecks, loopOf}
 use Rattle.model.specs.Legality.{placed, broken, pairConflict}
-use Rattle.model.specs.Search.{outside}
 
 -- legal; the number of a broken dependence; the two operations of a conflict
 pub data Verdict : Type 0 where
-  legal : Verdict
+  isLegal : Verdict
   breach : ℕ → Verdict
   clash : ℕ → ℕ → Verdict
 
--- 15: the first operation whose start is not below 4,096 is the detail
-abbrev pub lateAt : Option ℕ → Check
-lateAt none = check false 15 0
-lateAt (some o) = check true 15 o
-
--- 7, 20, 15
+-- 7, 20, 15; the detail of 15 is the first operation whose start is not below 4,096
 unfoldable pub proposalChecks : Loop → ℕ → List ℕ → List Check
 proposalChecks l ii xs =
-    check (outside 4096 ii) 7 1
+    range 1 4096 ii
     ∷ check (ltb (length xs) (size l)) 20 (length xs)
-    ∷ lateAt (first (λ o. leb 4096 (getD xs o 0)) (upFrom 0 (size l)))
+    ∷ ifFound 15 (first (λ o. leb 4096 (getD xs o 0)) (upFrom 0 (size l)))
     ∷ []
 
 -- dependences come first, in number order; then pairs of operations, in dictionary order
 abbrev pub judge : Option ℕ → Option (ℕ × ℕ) → Verdict
 judge (some e) p = breach e
 judge none (some p) = clash (p .0) (p .1)
-judge none none = legal
+judge none none = isLegal
+
+-- the first broken dependence
+unfoldable pub firstBroken : Loop → ℕ → List ℕ → Option ℕ
+firstBroken l ii xs = first (λ e. broken ii (placed xs) (depAt l e)) (upFrom 0 (length (l .deps)))
+
+-- the first pair of operations that conflicts
+unfoldable pub firstPair : Loop → ℕ → List ℕ → Option (ℕ × ℕ)
+firstPair l ii xs = first (pairConflict l ii (placed xs)) (pairs (size l))
 
 -- the verdict on one start for each operation
 unfoldable pub verdict : Loop → ℕ → List ℕ → Verdict
-verdict l ii xs =
-    judge (first (λ e. broken ii (placed xs) (depAt l e)) (upFrom 0 (length (l .deps)))) (first (pairConflict l ii (placed xs)) (pairs (size l)))
+verdict l ii xs = judge (firstBroken l ii xs) (firstPair l ii xs)
 
 -- the answer for any file, interval and list: 1 to 6, 7, 20, 15, then the verdict on the first starts
 unfoldable pub verifyFile : List ℕ → ℕ → List ℕ → Answer Verdict

@@ -1,3 +1,3 @@
 -- Hand-written laws of the crate that belong to no one function.
-pub mod Told
+pub mod Words
 pub mod Promises

@@ -13,7 +13,7 @@ use Rattle.model.proofs.Table.{length-table}
 use Rattle.model.proofs.Undo.{back-whole}
 use Rattle.board.specs.Board.{setupAs}
 use Rattle.replay.specs.Replay.{callsOf, replayFile, startWord, startWords, startsLeft, rowsLeft, Replayed}
-use Rattle.replay.proofs.Writing.{written-all}
+use Rattle.replay.proofs.Words.{written-all}
 
 -- ---- a call of mw_session that is not refused
 

@@ -6,7 +6,7 @@ use lib.ListN.{length}
 use Rattle.model.specs.Refusals.{Answer, answered, refused}
 use Rattle.model.specs.Bounds.{Lower, BoundsIs}
 use Rattle.model.specs.Search.{Outcome, found, ended, SearchIs, listAfter, rowsAfter}
-use Rattle.model.specs.Verifier.{Verdict, legal, breach, clash}
+use Rattle.model.specs.Verifier.{Verdict, isLegal, breach, clash}
 use Rattle.loop_file.specs.Read.{Counts}
 use Rattle.replay.specs.Words.{written, Gives}
 
@@ -20,7 +20,7 @@ lowerWords b = b .resource ∷ b .recurrence ∷ 0 ∷ 0 ∷ 0 ∷ 0 ∷ 0 ∷ [
 
 -- legal, a broken dependence, a conflict
 abbrev pub verdictWords : Verdict → List ℕ
-verdictWords legal = 0 ∷ 0 ∷ 0 ∷ 0 ∷ 0 ∷ 0 ∷ 0 ∷ []
+verdictWords isLegal = 0 ∷ 0 ∷ 0 ∷ 0 ∷ 0 ∷ 0 ∷ 0 ∷ []
 verdictWords (breach e) = 1 ∷ e ∷ 0 ∷ 0 ∷ 0 ∷ 0 ∷ 0 ∷ []
 verdictWords (clash a b) = 2 ∷ a ∷ b ∷ 0 ∷ 0 ∷ 0 ∷ 0 ∷ []
 

@@ -8,8 +8,7 @@ use native.Mathlib.Omega.{arith}
 use borrow.Author.Tests.{lt-ltb, le-ltb, ltb-false}
 use lib.ListN.{length, getD}
 use Rattle.model.specs.Lists.{upFrom}
-use Rattle.model.specs.Refusals.{Refusal, firstRefusal, Answer, answered, refused, settled}
-use Rattle.model.specs.Search.{outside}
+use Rattle.model.specs.Refusals.{Refusal, outside, firstRefusal, Answer, answered, refused, settled}
 use Rattle.model.specs.Session.{Setup, State, Call, openChecks, openFile, openRows, after, replies}
 use Rattle.model.specs.Session as model
 use Rattle.model.proofs.Lists.{upFrom-snoc, length-tabulate, map-append}
@@ -25,7 +24,7 @@ use Rattle.board.specs.declared.Checked.the-variants as checked
 use Rattle.session.proofs.Calls.{stands-marks, run-then, run-count, from-open, ran}
 use Rattle.replay.specs.Words.{written, numberOf, wordsOf}
 use Rattle.replay.specs.Replay.{callCount, callAt, firstCalls, callsOf, kindCheck, callChecks, replayFile, replyWords, allWords, startWords, endWords, repliesLeft, startsLeft, rowsLeft, Replayed, Made}
-use Rattle.replay.proofs.Writing.{written-more, words-length, words-then, starts-told}
+use Rattle.replay.proofs.Words.{written-more, words-length, words-then, starts-told}
 
 -- ---- whether a call has a kind
 

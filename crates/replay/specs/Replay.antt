@@ -6,8 +6,7 @@ use Prim.Native.Nat.{ℕ, _+_, _*_, _/_}
 use lib.Dec.{ltb}
 use lib.ListN.{length, getD, drop}
 use Rattle.model.specs.Lists.{upFrom}
-use Rattle.model.specs.Refusals.{Check, check, Answer, answered, refused, settle}
-use Rattle.model.specs.Search.{outside}
+use Rattle.model.specs.Refusals.{Check, check, outside, Answer, answered, refused, settle}
 use Rattle.model.specs.Session.{Setup, Starts, Call, Reply, done, displaced, numbered, stateTable, openChecks, start, after, replies}
 use Rattle.board.specs.Board.{setupAs}
 use Rattle.replay.specs.Parts.{callOf}

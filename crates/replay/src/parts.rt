@@ -2,10 +2,10 @@
 use board::Reply;
 use board::moves;
 ghost use mathlib.Core.Path.{_≡_};
-ghost use Rattle.replay.specs.Parts.{Ready, Turned};
+ghost use Rattle.replay.specs.Parts.{StepReady, StepMade};
 
 // How many checkpoints are open after a call, and its answer.
-pub struct Turn {
+pub struct Step {
     pub marks: usize,
     pub reply: Reply,
 }
@@ -24,9 +24,9 @@ pub fn make(
     wanted: &[u16; 64],
     starts: &mut [u16; 64],
     rows: &mut [u64],
-) -> Turn
-    requires { ⌜ Ready (now store) «length_» interval horizon marks a (now wanted) (now starts) (now rows) ⌝ }
-    ensures { λ r. ⌜ Turned (now (store .entry)) «length_» interval horizon marks kind a b (now (wanted .entry)) (now (starts .entry)) (now (rows .entry)) (now (starts .exit)) (now (rows .exit)) (r .marks) (r .reply) ⌝ }
+) -> Step
+    requires { ⌜ StepReady (now store) «length_» interval horizon marks a (now wanted) (now starts) (now rows) ⌝ }
+    ensures { λ r. ⌜ StepMade (now (store .entry)) «length_» interval horizon marks kind a b (now (wanted .entry)) (now (starts .entry)) (now (rows .entry)) (now (starts .exit)) (now (rows .exit)) (r .marks) (r .reply) ⌝ }
 {
     if kind == 1 {
         return told(
@@ -69,10 +69,10 @@ pub fn make(
 }
 
 // Both as one.
-fn told(marks: usize, reply: Reply) -> Turn
+fn told(marks: usize, reply: Reply) -> Step
     ensures { λ r. ⌜ r ≡ record { marks = marks; reply = reply } ⌝ }
 {
-    Turn {
+    Step {
         marks: marks,
         reply: reply,
     }

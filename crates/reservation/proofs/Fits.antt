@@ -11,7 +11,7 @@ use native.Mathlib.Omega.{arith}
 use lib.Dec.{eqb, leb, ltb}
 use lib.ListN.{length, getD}
 use borrow.Author.Tests.{le-leb, lt-leb, lt-ltb, le-ltb, ltb-false, eqb-false}
-use Rattle.model.specs.Lists.{upFrom, any}
+use Rattle.model.specs.Lists.{upFrom, anyOf}
 use Rattle.model.specs.Loop.{Use, Op, noUse, useAt, OpOk}
 use Rattle.model.specs.Legality.{Cell, covers, footprint, share, selfConflict}
 use Rattle.model.specs.Table.{countOf, IsTable, digitOf, Digits}
@@ -33,8 +33,8 @@ module _ (ii : ℕ) (rows : List ℕ) (s : ℕ) (us : List Use) where
   pub taken-each : firstTaken ii rows s us ≡ none → (k j : ℕ) → k < 16 → j < length us → takenAt ii rows s k (getD us j noUse) ≡ false
   unfolding firstTaken
   taken-each e k j l m =
-      let all : any met (flatMap row (upFrom 0 16)) ≡ false = none-first met (flatMap row (upFrom 0 16)) e in
-      let one : any met (row k) ≡ false = any-row (λ c. any met (row c)) 0 16 k (sym (any-flatMap met row (upFrom 0 16)) ∙ all) (omega arith) (omega arith) in
+      let all : anyOf met (flatMap row (upFrom 0 16)) ≡ false = none-first met (flatMap row (upFrom 0 16)) e in
+      let one : anyOf met (row k) ≡ false = any-row (λ c. anyOf met (row c)) 0 16 k (sym (any-flatMap met row (upFrom 0 16)) ∙ all) (omega arith) (omega arith) in
       any-at (takenAt ii rows s k) us j noUse (sym (any-map met (λ u. (k, u)) us) ∙ one) m
 
   -- and the other way round
@@ -43,7 +43,7 @@ module _ (ii : ℕ) (rows : List ℕ) (s : ℕ) (us : List Use) where
   each-taken h =
       first-none met (flatMap row (upFrom 0 16))
       (any-flatMap met row (upFrom 0 16)
-      ∙ row-any (λ c. any met (row c)) 0 16 (λ k l m. any-map met (λ u. (k, u)) us ∙ at-any (takenAt ii rows s k) us noUse (λ j q. h k j (omega arith) q)))
+      ∙ row-any (λ c. anyOf met (row c)) 0 16 (λ k l m. any-map met (λ u. (k, u)) us ∙ at-any (takenAt ii rows s k) us noUse (λ j q. h k j (omega arith) q)))
 
 module _ (ii : ℕ) (cells : List Cell) (rows : List ℕ) (t : IsTable 2 ii cells rows) (d : Digits 2 cells) (p : Op) (ok : OpOk p) (pos : 1 ≤ ii) (s : ℕ) where
   -- the bit of a use's slot in a row of the table is the count of that cell

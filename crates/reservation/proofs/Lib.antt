@@ -1,12 +1,12 @@
 -- Hand-written laws of the crate that belong to no one function.
 pub mod Bits
-pub mod Over
-pub mod Turns
+pub mod RowUpdates
+pub mod UseNumbers
 pub mod Tables
 pub mod Free
 pub mod Seats
-pub mod Taken
+pub mod TakenCells
 pub mod Fits
-pub mod Meeting
+pub mod Overlaps
 pub mod Stores
 pub mod Placings

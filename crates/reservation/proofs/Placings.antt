@@ -1,6 +1,6 @@
 -- One operation more in a placing: its cells in the table, whether it conflicts, and the rows with it reserved and released. Assumes nothing.
-use mathlib.Core.Path.{_≡_, sym, ap, ap₂, _∙_}
-use mathlib.Core.Bool.{Bool, true, false, not, _&&_, _||_, and-false}
+use mathlib.Core.Path.{_≡_, sym, ap, _∙_}
+use mathlib.Core.Bool.{Bool, true, false, not, _&&_, and-false}
 use mathlib.Core.List.{List, _++_}
 use mathlib.Core.Option.{Option, none, some}
 use Prim.Native.Nat.{ℕ, _≤_, _<_}
@@ -8,27 +8,23 @@ use native.Mathlib.Decide.{ℕ-discrete}
 use native.Mathlib.Omega.{arith}
 use borrow.Author.Tests.{ne-eqb, not-true}
 use lib.Dec.{eqb}
-use lib.ListN.{length, take, drop, take-append-drop}
-use Rattle.model.specs.Lists.{upFrom, any, count}
+use lib.ListN.{length}
+use Rattle.model.specs.Lists.{upFrom, anyOf, countIf}
 use Rattle.model.specs.Loop.{Op, Loop, noDep, size, opAt, depAt, OpOk, LoopOk}
-use Rattle.model.specs.Legality.{Placing, Cell, sameCell, footprint, share, selfConflict, conflictAt, meets, apart, legalAt, placeAt, breaks, conflictsWith, fitsAt}
+use Rattle.model.specs.Legality.{Placing, Cell, sameCell, footprint, share, selfConflict, conflictAt, meets, apart, legalAt, placeAt, breaks, conflictsWith, conflicts, fitsAt}
 use Rattle.model.specs.Table.{countOf, opCells, cellsOf, IsTable, Digits}
-use Rattle.model.proofs.Lists.{and-right, or-false-left, or-false-right, or-both, same-test, any-row, row-any, any-places, count-append, one-sum, sum-none}
+use Rattle.model.proofs.Lists.{and-right, or-false-left, or-false-right, or-both, same-test, any-row, row-any, any-places, take-drop-same, count-append, one-sum, sum-none}
 use Rattle.model.proofs.Legality.{place-same, place-other}
 use Rattle.model.proofs.Table.{table-take, table-same}
 use Rattle.model.proofs.Conflicts.{apart-cells, cells-apart, conflict-cells, cells-conflict, cellsAt, cells-sum, cells-around, apart-once}
 use Rattle.reservation.specs.Rows.{overUses, withBit, lessBit, UsesIn}
 use Rattle.reservation.specs.Place.{firstTaken}
-use Rattle.reservation.proofs.Over.{uses-rest}
+use Rattle.reservation.proofs.RowUpdates.{uses-rest}
 use Rattle.reservation.proofs.Tables.{reserve-table, release-table}
 use Rattle.reservation.proofs.Free.{uses-free, uses-taken}
 use Rattle.reservation.proofs.Fits.{free-self, free-apart, apart-free}
 
 -- ---- legality
-
--- operation o at t conflicts with itself or a placed operation
-abbrev pub conflicts : Loop → ℕ → Placing → ℕ → ℕ → Bool
-conflicts l ii f o t = selfConflict ii (opAt l o) || any (conflictsWith l ii f o t) (upFrom 0 (size l))
 
 -- in the table of a legal placing every count is a bit
 pub legal-digits : (l : Loop) (ii : ℕ) (f : Placing) → LoopOk l → legalAt l ii f ≡ true → Digits 2 (cellsOf l ii f)
@@ -37,25 +33,25 @@ legal-digits l ii f ok h s r = omega (arith, apart-once l ii f ok (and-right (me
 
 module _ (l : Loop) (ii : ℕ) (f : Placing) (o t : ℕ) where
   -- an operation fits exactly where it breaks no dependence, one number after the other, and does not conflict
-  pub fits-tests : fitsAt l ii f o t ≡ (not (any (λ e. breaks ii f o t (depAt l e)) (upFrom 0 (length (l .deps)))) && not (conflicts l ii f o t))
+  pub fits-tests : fitsAt l ii f o t ≡ (not (anyOf (λ e. breaks ii f o t (depAt l e)) (upFrom 0 (length (l .deps)))) && not (conflicts l ii f o t))
   unfolding fitsAt
   fits-tests = ap (λ (b : Bool). not b && not (conflicts l ii f o t)) (any-places (breaks ii f o t) (l .deps) noDep)
 
   -- so one that fits does not conflict
   pub fits-conflict : fitsAt l ii f o t ≡ true → conflicts l ii f o t ≡ false
   unfolding fitsAt
-  fits-conflict h = not-true (conflicts l ii f o t) (and-right (not (any (breaks ii f o t) (l .deps))) (not (conflicts l ii f o t)) h)
+  fits-conflict h = not-true (conflicts l ii f o t) (and-right (not (anyOf (breaks ii f o t) (l .deps))) (not (conflicts l ii f o t)) h)
 
   -- and one that does not conflict does not conflict with itself
   pub conflict-self : conflicts l ii f o t ≡ false → selfConflict ii (opAt l o) ≡ false
-  conflict-self c = or-false-left (selfConflict ii (opAt l o)) (any (conflictsWith l ii f o t) (upFrom 0 (size l))) c
+  conflict-self c = or-false-left (selfConflict ii (opAt l o)) (anyOf (conflictsWith l ii f o t) (upFrom 0 (size l))) c
 
 module _ (l : Loop) (ii : ℕ) (f : Placing) (o t : ℕ) (open-yet : f o ≡ none) where
   -- an operation has a cell in common with the placed ones exactly where it conflicts with one of them
-  pub share-place : share (footprint ii (opAt l o) t) (cellsOf l ii f) ≡ any (conflictsWith l ii f o t) (upFrom 0 (size l))
-  unfolding count
+  pub share-place : share (footprint ii (opAt l o) t) (cellsOf l ii f) ≡ anyOf (conflictsWith l ii f o t) (upFrom 0 (size l))
+  unfolding countIf
   share-place =
-      same-test (share (footprint ii (opAt l o) t) (cellsOf l ii f)) (any (conflictsWith l ii f o t) (upFrom 0 (size l)))
+      same-test (share (footprint ii (opAt l o) t) (cellsOf l ii f)) (anyOf (conflictsWith l ii f o t) (upFrom 0 (size l)))
       (λ e. row-any (conflictsWith l ii f o t) 0 (size l) (λ p m n. clear e p (omega arith)))
       (λ e. cells-apart (footprint ii (opAt l o) t) (cellsOf l ii f) (λ s r h.
       cells-sum l ii f s r ∙ sum-none (cellsAt l ii f s r) 0 (size l) (λ p m n. other e s r h p (omega arith) (ℕ-discrete p o))))
@@ -67,7 +63,7 @@ module _ (l : Loop) (ii : ℕ) (f : Placing) (o t : ℕ) (open-yet : f o ≡ non
           omega (arith, apart-cells (footprint ii (opAt l o) t) (cellsOf l ii f) e s r h, cells-sum l ii f s r, one-sum (cellsAt l ii f s r) (size l) p m)))
           ∙ and-false (not (eqb p o))
 
-      other : any (conflictsWith l ii f o t) (upFrom 0 (size l)) ≡ false → (s r : ℕ) → 1 ≤ countOf s r (footprint ii (opAt l o) t)
+      other : anyOf (conflictsWith l ii f o t) (upFrom 0 (size l)) ≡ false → (s r : ℕ) → 1 ≤ countOf s r (footprint ii (opAt l o) t)
           → (p : ℕ) → p < size l → Dec (p ≡ o) → cellsAt l ii f s r p ≡ 0
       other e s r h p m (yes q) = ap (λ (x : Option ℕ). countOf s r (opCells ii (opAt l p) x)) (ap f q ∙ open-yet)
       other e s r h p m (no n) =
@@ -78,7 +74,7 @@ module _ (l : Loop) (ii : ℕ) (f : Placing) (o t : ℕ) (open-yet : f o ≡ non
 
   -- so one that does not conflict has none
   pub conflict-apart : conflicts l ii f o t ≡ false → share (footprint ii (opAt l o) t) (cellsOf l ii f) ≡ false
-  conflict-apart c = share-place ∙ or-false-right (selfConflict ii (opAt l o)) (any (conflictsWith l ii f o t) (upFrom 0 (size l))) c
+  conflict-apart c = share-place ∙ or-false-right (selfConflict ii (opAt l o)) (anyOf (conflictsWith l ii f o t) (upFrom 0 (size l))) c
 
 -- ---- the table
 
@@ -125,7 +121,7 @@ module _ (l : Loop) (ii : ℕ) (f : Placing) (o t : ℕ) (ok : LoopOk l) (pos : 
     -- where the conflict test finds nothing taken it does not conflict
     pub free-conflict : firstTaken ii rows t (opAt l o .uses) ≡ none → conflicts l ii f o t ≡ false
     free-conflict e =
-        or-both (selfConflict ii (opAt l o)) (any (conflictsWith l ii f o t) (upFrom 0 (size l)))
+        or-both (selfConflict ii (opAt l o)) (anyOf (conflictsWith l ii f o t) (upFrom 0 (size l)))
         (free-self ii (cellsOf l ii f) rows held digits (opAt l o) op-ok pos t e)
         (sym (share-place l ii f o t open-yet) ∙ free-apart ii (cellsOf l ii f) rows held digits (opAt l o) op-ok pos t e)
 
@@ -141,14 +137,10 @@ module _ (l : Loop) (ii : ℕ) (f : Placing) (o t : ℕ) (ok : LoopOk l) (pos : 
 
 -- ---- reserved, then released
 
--- two lists that agree in their first n places and after those are one
-take-drop-same : (n : ℕ) (xs ys : List ℕ) → take n xs ≡ take n ys → drop n xs ≡ drop n ys → xs ≡ ys
-take-drop-same n xs ys p q = sym (take-append-drop n xs) ∙ ap₂ (λ (a b : List ℕ). a ++ b) p q ∙ take-append-drop n ys
-
 -- releasing an operation that was reserved gives the rows back
-pub restored : (ii s : ℕ) (p : Op) → OpOk p → 1 ≤ ii → (cells : List Cell) (rows : List ℕ) → IsTable 2 ii cells rows
+pub reserve-release : (ii s : ℕ) (p : Op) → OpOk p → 1 ≤ ii → (cells : List Cell) (rows : List ℕ) → IsTable 2 ii cells rows
     → overUses lessBit ii s (p .uses) (length (p .uses)) (overUses withBit ii s (p .uses) (length (p .uses)) rows) ≡ rows
-restored ii s p ok pos cells rows t =
+reserve-release ii s p ok pos cells rows t =
     let n : ℕ = length (p .uses) in
     let mid : List ℕ = overUses withBit ii s (p .uses) n rows in
     let back : List ℕ = overUses lessBit ii s (p .uses) n mid in

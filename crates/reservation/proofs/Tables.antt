@@ -7,7 +7,7 @@ use native.Mathlib.Nat.{le-refl, add-assoc, mod-lt}
 use native.Mathlib.Omega.{arith}
 use borrow.Author.Tests.{le-leb, lt-leb, lt-ltb, le-ltb}
 use lib.ListN.{length, getD}
-use Rattle.model.specs.Lists.{upFrom, count, sumOf}
+use Rattle.model.specs.Lists.{upFrom, countIf, sumOf}
 use Rattle.model.specs.Loop.{Use, Op, noUse, useAt, UseOk, OpOk}
 use Rattle.model.specs.Legality.{Cell, sameCell, covers, cellsIn, footprint}
 use Rattle.model.specs.Table.{countOf, IsTable}
@@ -56,7 +56,7 @@ usesCells ii s us (suc n) = cellsOfUse ii s (getD us n noUse) ++ usesCells ii s 
 
 -- they count as the uses do together
 uses-count : (ii s : ℕ) (us : List Use) (t r n : ℕ) → countOf t r (usesCells ii s us n) ≡ sumOf (λ j. countOf t r (cellsOfUse ii s (getD us j noUse))) (upFrom 0 n)
-unfolding usesCells count sumOf upFrom
+unfolding usesCells countIf sumOf upFrom
 uses-count ii s us t r zero = refl
 uses-count ii s us t r (suc n) =
     count-append (sameCell (record { slot = t; row = r })) (cellsOfUse ii s (getD us n noUse)) (usesCells ii s us n)
@@ -77,7 +77,7 @@ module _ (ii s t r : ℕ) where
 
   -- a cycle by its uses
   cycle-uses : (k : ℕ) (us : List Use) → countOf t r (cellsIn ((s + k) % ii) k us) ≡ sumOf (λ u. inCycle u k) us
-  unfolding cellsIn count sumOf
+  unfolding cellsIn countIf sumOf
   cycle-uses k [] = refl
   cycle-uses k (u ∷ us) = pick (covers k u) (cycle-uses k us)
     where
@@ -91,7 +91,7 @@ module _ (ii s t r : ℕ) where
 
   -- a use adds nothing in a cycle that it does not cover
   outside : (u : Use) (k : ℕ) → covers k u ≡ false → inCycle u k ≡ 0
-  unfolding cellsIn count
+  unfolding cellsIn countIf
   outside u k e = rw e
 
   -- and its cell in one that it covers
@@ -101,7 +101,7 @@ module _ (ii s t r : ℕ) where
 
   -- the cycles that it covers
   covered : (u : Use) (d : ℕ) → d ≤ u .duration → sumOf (inCycle u) (upFrom (u .offset) d) ≡ countOf t r (useCells ii (u .slot) (s + u .offset) d)
-  unfolding useCells count sumOf upFrom
+  unfolding useCells countIf sumOf upFrom
   covered u zero l = refl
   covered u (suc d) l =
       let o = u .offset in

@@ -1,4 +1,4 @@
 pub mod Rows
 pub mod Place
 pub mod Seats
-pub mod Meeting
+pub mod Overlaps

@@ -4,10 +4,8 @@ use mathlib.Core.List.{List}
 use mathlib.Core.Option.{Option, none, some}
 use Prim.Native.Nat.{ℕ}
 use lib.Dec.{eqb}
-use lib.ListN.{length, getD}
-use Rattle.model.specs.Lists.{upFrom, first}
-use Rattle.model.specs.Loop.{Loop, depAt}
-use Rattle.model.specs.Legality.{Placing, breaks}
+use lib.ListN.{getD}
+use Rattle.model.specs.Legality.{Placing}
 use Rattle.reservation.specs.declared.Broken.{Broken}
 use Rattle.reservation.specs.declared.Broken.the-variants as broken
 
@@ -27,7 +25,3 @@ startIn xs o t p = cond (eqb p o) t (getD xs p 65535)
 abbrev pub brokenOf : Broken → Option ℕ
 brokenOf broken.Nothing = none
 brokenOf (broken.At e) = some e
-
--- the first dependence of o with itself or a placed operation that o at t breaks
-unfoldable pub firstBreach : Loop → ℕ → Placing → ℕ → ℕ → Option ℕ
-firstBreach l ii f o t = first (λ e. breaks ii f o t (depAt l e)) (upFrom 0 (length (l .deps)))

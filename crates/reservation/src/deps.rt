@@ -10,8 +10,8 @@ ghost use Prim.Native.Nat.{_<_, _≤_};
 ghost use lib.ListN.{length};
 ghost use Rattle.model.specs.Loop.{size, depAt};
 ghost use Rattle.model.specs.File.{loopOf, Accepted};
-ghost use Rattle.model.specs.Legality.{holds, breaks};
-ghost use Rattle.reservation.specs.Seats.{seats, startIn, brokenOf, firstBreach};
+ghost use Rattle.model.specs.Legality.{holds, breaks, firstBreach};
+ghost use Rattle.reservation.specs.Seats.{seats, startIn, brokenOf};
 
 // Whether dependence e holds with its source started at `from` and its target at `to`.
 pub fn dep_holds(file: &[u8], e: usize, from: usize, to: usize, interval: usize) -> bool

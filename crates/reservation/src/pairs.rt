@@ -10,7 +10,7 @@ ghost use lib.ListN.{length, getD};
 ghost use Rattle.model.specs.Loop.{noUse, size, opAt, allUses};
 ghost use Rattle.model.specs.File.{loopOf, Accepted};
 ghost use Rattle.model.specs.Legality as legality;
-ghost use Rattle.reservation.specs.Meeting.{coversCell, useMeets};
+ghost use Rattle.reservation.specs.Overlaps.{coversCell, useMeets};
 
 // Whether an operation started at `start` covers the slot in the row.
 pub fn covers(

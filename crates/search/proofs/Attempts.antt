@@ -6,11 +6,12 @@ use native.Mathlib.Omega.{arith}
 use lib.ListN.{length, take, drop, replicate}
 use lib.Seq.{getD-take, length-take-le, take-at}
 use Rattle.model.specs.Lists.{upFrom}
+use Rattle.model.specs.Integers.{ceilDiv}
 use Rattle.model.specs.Refusals.{answered}
 use Rattle.model.specs.Loop.{Loop, size, opAt}
 use Rattle.model.specs.File.{loopOf, Accepted}
 use Rattle.model.specs.Bounds.{Lower}
-use Rattle.model.specs.Search.{startOf, lastEnd, stageCount, ceilDiv, Request, found, intervals, sweep}
+use Rattle.model.specs.Search.{startOf, lastEnd, stageCount, Request, found, intervals, sweep}
 use Rattle.model.proofs.File.{accepted-ok}
 use Rattle.model.proofs.Sums.{max-same}
 use Rattle.reservation.proofs.Stores.{cleared, cleared-length}

@@ -7,11 +7,11 @@ use Prim.Native.Nat.{ℕ, _≤_, _<_}
 use native.Mathlib.Omega.{arith}
 use lib.ListN.{length}
 use borrow.Author.Tests.{ltb-false, lt-ltb, le-ltb}
-use Rattle.model.specs.Refusals.{Refusal, Check, firstRefusal}
+use Rattle.model.specs.Refusals.{Refusal, Check, outside, firstRefusal}
 use Rattle.model.specs.Loop.{Loop, size}
 use Rattle.model.specs.File.{fileChecks, loopOf, Accepted, readFile}
 use Rattle.model.specs.Bounds.{resourceBound, Lower, LowerIs, cyclic, beyond, within}
-use Rattle.model.specs.Search.{Request, outside, requestChecks, roomChecks, searchChecks, by-check, by-bound, by-sweep}
+use Rattle.model.specs.Search.{Request, requestChecks, roomChecks, searchChecks, by-check, by-bound, by-sweep}
 use Rattle.model.proofs.Checks.{refusal-append, refusal-early, passes-head, passes-tail, at-most}
 use Rattle.loop_file.specs.Read.{refusal, readingOf, counted}
 use Rattle.loop_file.specs.declared.Reading.{Reading}

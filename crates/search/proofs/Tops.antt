@@ -23,7 +23,7 @@ use Rattle.search.specs.Sweep.{Clear, outcomeOf, SweptIs, Ranged}
 use Rattle.descent.specs.declared.Found.{Found}
 use Rattle.descent.specs.declared.Found.the-variants.{All, Spent, Nothing}
 use Rattle.search.specs.declared.sweep.Swept.the-variants as swept
-use Rattle.descent.proofs.Counting.{answer-run}
+use Rattle.descent.proofs.Runs.{answer-run}
 
 -- ---- the intervals that are left
 

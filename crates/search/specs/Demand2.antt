@@ -6,7 +6,7 @@ use mathlib.Core.Logic.{_⊎_}
 use mathlib.Core.Option.{none}
 use Prim.Native.Nat.{ℕ, suc, _-_, _≤_, _<_, max}
 use lib.ListN.{length, getD}
-use Rattle.model.specs.Lists.{upFrom, sumOf}
+use Rattle.model.specs.Lists.{upFrom, Below, sumOf}
 use Rattle.model.specs.Refusals.{Refusal, firstRefusal, Answer, answered}
 use Rattle.model.specs.Loop.{Loop, size}
 use Rattle.model.specs.File.{loopOf}
@@ -20,7 +20,7 @@ use Rattle.search.specs.declared.Searched.{Searched}
 
 -- one start an operation, each below the horizon
 abbrev pub Listed : Loop → Request → List ℕ → Type 0
-Listed l q xs = (length xs ≡ size l) × ((o : ℕ) → o < length xs → getD xs o 0 < q .horizon)
+Listed l q xs = (length xs ≡ size l) × Below (q .horizon) xs
 
 -- no such list is legal at jj
 abbrev pub NoneAt : Loop → Request → ℕ → Type 0

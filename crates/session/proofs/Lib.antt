@@ -1,4 +1,4 @@
 -- Hand-written laws of the crate that belong to no one function.
-pub mod Stepping
+pub mod Steps
 pub mod Openings
 pub mod Calls

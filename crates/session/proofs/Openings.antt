@@ -24,7 +24,7 @@ use Rattle.session.specs.View.{fileOf, stateOf, blank, Valid, closedSess
 use Rattle.session.specs.declared.Session.{Session}
 use Rattle.board.specs.declared.Checked.the-variants as checked
 use Rattle.board.proofs.Boards.{few-operations}
-use Rattle.board.proofs.Refusing.{numbers, open-later}
+use Rattle.board.proofs.Refusals.{numbers, open-later}
 
 -- ---- an empty array
 

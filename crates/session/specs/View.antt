@@ -9,7 +9,7 @@ use Rattle.model.specs.File.{loopOf}
 use Rattle.model.specs.Session.{Setup, State, Call, stateTable, openFile, openRows, start, step}
 use Rattle.board.specs.Board.{startsOf, setupAs, Sane, Board}
 use Rattle.board.specs.Moves.{replyOf}
-use Rattle.session.specs.declared.Starts as starts
+use Rattle.session.specs.declared.OpStarts as starts
 use Rattle.session.specs.declared.Session.{Session}
 use Rattle.board.specs.declared.Reply.{Reply}
 use Rattle.board.specs.declared.Checked.{Checked}
@@ -30,13 +30,13 @@ abbrev pub stateOf : Session → State
 stateOf s =
     record {
       starts = startsOf (size (loopOf (fileOf s))) (s .starts .at);
-      checkpoints = map (λ (x : starts.Starts). startsOf (size (loopOf (fileOf s))) (x .at)) (take (s .marks) (s .saved));
+      checkpoints = map (λ (x : starts.OpStarts). startsOf (size (loopOf (fileOf s))) (x .at)) (take (s .marks) (s .saved));
     }
 
 -- ---- sessions that calls take
 
 -- starts of nothing
-abbrev pub blank : starts.Starts
+abbrev pub blank : starts.OpStarts
 blank = record { at = replicate 64 65535 }
 
 -- the arrays are whole, the rows are the table of the starts, and each open checkpoint's starts are sane

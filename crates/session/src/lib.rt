@@ -12,7 +12,7 @@ ghost use Rattle.model.specs.Session as model;
 ghost use Rattle.session.specs.View.{closedSession, Valid, Stepped, Opened};
 
 // A start for each operation, 65,535 where it is not placed (document 01: seats).
-pub struct Starts {
+pub struct OpStarts {
     pub at: [u16; 64],
 }
 
@@ -22,13 +22,13 @@ pub struct Session {
     pub length: usize,
     pub interval: usize,
     pub horizon: usize,
-    pub starts: Starts,
+    pub starts: OpStarts,
     pub marks: usize,
-    pub saved: [Starts; 16],
+    pub saved: [OpStarts; 16],
 }
 
 // The session after a call, and the answer.
-pub struct Outcome {
+pub struct After {
     pub session: Session,
     pub reply: Reply,
 }
@@ -69,7 +69,7 @@ pub fn open(file: &[u8], interval: usize, horizon: usize, rows: &mut [u64]) -> O
 fn closed() -> Session
     ensures { λ r. ⌜ r ≡ closedSession ⌝ }
 {
-    let blank = Starts { at: [65535u16; 64] };
+    let blank = OpStarts { at: [65535u16; 64] };
     Session {
         file: [0u8; 1690],
         length: 0,
@@ -82,7 +82,7 @@ fn closed() -> Session
 }
 
 // Places an operation at a start where it fits (document 01: seat).
-pub fn place(s: Session, rows: &mut [u64], op: usize, start: usize) -> Outcome
+pub fn place(s: Session, rows: &mut [u64], op: usize, start: usize) -> After
     requires { ⌜ Valid s (now rows) ⌝ }
     ensures { λ r. ⌜ Stepped (model.place op start) s (now (rows .entry)) (r .session) (now (rows .exit)) (r .reply) ⌝ }
 {
@@ -102,14 +102,14 @@ pub fn place(s: Session, rows: &mut [u64], op: usize, start: usize) -> Outcome
     );
     let mut t = s;
     t.starts = starts;
-    Outcome {
+    After {
         session: t,
         reply: reply,
     }
 }
 
 // Places an operation and removes first what is in its way.
-pub fn force(s: Session, rows: &mut [u64], op: usize, start: usize) -> Outcome
+pub fn force(s: Session, rows: &mut [u64], op: usize, start: usize) -> After
     requires { ⌜ Valid s (now rows) ⌝ }
     ensures { λ r. ⌜ Stepped (model.force op start) s (now (rows .entry)) (r .session) (now (rows .exit)) (r .reply) ⌝ }
 {
@@ -129,14 +129,14 @@ pub fn force(s: Session, rows: &mut [u64], op: usize, start: usize) -> Outcome
     );
     let mut t = s;
     t.starts = starts;
-    Outcome {
+    After {
         session: t,
         reply: reply,
     }
 }
 
 // Removes a placed operation (document 01: withdraw).
-pub fn remove(s: Session, rows: &mut [u64], op: usize) -> Outcome
+pub fn remove(s: Session, rows: &mut [u64], op: usize) -> After
     requires { ⌜ Valid s (now rows) ⌝ }
     ensures { λ r. ⌜ Stepped (model.remove op) s (now (rows .entry)) (r .session) (now (rows .exit)) (r .reply) ⌝ }
 {
@@ -146,20 +146,20 @@ pub fn remove(s: Session, rows: &mut [u64], op: usize) -> Outcome
     let reply = moves::remove(&s.file, length, interval, op, &mut starts.at, rows);
     let mut t = s;
     t.starts = starts;
-    Outcome {
+    After {
         session: t,
         reply: reply,
     }
 }
 
 // Keeps a copy of the starts (document 01: mark). The rows are not read.
-pub fn checkpoint(s: Session, rows: &[u64]) -> Outcome
+pub fn checkpoint(s: Session, rows: &[u64]) -> After
     requires { ⌜ Valid s (now rows) ⌝ }
     ensures { λ r. ⌜ Stepped model.checkpoint s (now (rows .entry)) (r .session) (now (rows .entry)) (r .reply) ⌝ }
 {
     let n = s.marks;
     if 16 <= n {
-        return Outcome {
+        return After {
             session: s,
             reply: Reply::Refused(18, 0),
         };
@@ -168,45 +168,45 @@ pub fn checkpoint(s: Session, rows: &[u64]) -> Outcome
     let mut t = s;
     t.saved[n] = starts;
     t.marks = n + 1;
-    Outcome {
+    After {
         session: t,
         reply: Reply::Numbered(n + 1),
     }
 }
 
 // Forgets the newest checkpoint (document 01: drop). The rows are not read.
-pub fn release(s: Session, rows: &[u64]) -> Outcome
+pub fn release(s: Session, rows: &[u64]) -> After
     requires { ⌜ Valid s (now rows) ⌝ }
     ensures { λ r. ⌜ Stepped model.release s (now (rows .entry)) (r .session) (now (rows .entry)) (r .reply) ⌝ }
 {
     let n = s.marks;
     if n == 0 {
-        return Outcome {
+        return After {
             session: s,
             reply: Reply::Refused(19, 0),
         };
     }
     let mut t = s;
     t.marks = n - 1;
-    Outcome {
+    After {
         session: t,
         reply: Reply::Done,
     }
 }
 
 // Goes back to the starts of checkpoint m, which stays open; later ones are forgotten (document 01: back to mark).
-pub fn rollback(s: Session, rows: &mut [u64], m: usize) -> Outcome
+pub fn rollback(s: Session, rows: &mut [u64], m: usize) -> After
     requires { ⌜ Valid s (now rows) ⌝ }
     ensures { λ r. ⌜ Stepped (model.rollback m) s (now (rows .entry)) (r .session) (now (rows .exit)) (r .reply) ⌝ }
 {
     if m == 0 {
-        return Outcome {
+        return After {
             session: s,
             reply: Reply::Refused(19, 0),
         };
     }
     if s.marks < m {
-        return Outcome {
+        return After {
             session: s,
             reply: Reply::Refused(19, 0),
         };
@@ -219,7 +219,7 @@ pub fn rollback(s: Session, rows: &mut [u64], m: usize) -> Outcome
     let mut t = s;
     t.starts = wanted;
     t.marks = m;
-    Outcome {
+    After {
         session: t,
         reply: Reply::Done,
     }

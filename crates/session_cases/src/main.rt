@@ -2,8 +2,8 @@
 // in the session and in the lent table. What it must print, the file stdout, was worked out by hand from document 01.
 mod show;
 
+use session::After;
 use session::Checked;
-use session::Outcome;
 use session::Session;
 use show::UNTOUCHED;
 use trial::drawn::least;
@@ -38,7 +38,7 @@ fn read_call(line: &[u8]) -> Call {
 }
 
 // A call on the session.
-fn step(s: Session, rows: &mut [u64], c: Call) -> Outcome
+fn step(s: Session, rows: &mut [u64], c: Call) -> After
     requires { ⌜ Valid s (now rows) ⌝ }
     ensures { λ r. ⌜ Valid (r .session) (now (rows .exit)) ⌝ }
 {

@@ -1,5 +1,5 @@
 // What a line shows: an answer, the placed operations with their starts, how many checkpoints are open, and the table.
-use session::Outcome;
+use session::After;
 use session::Reply;
 use session::Session;
 ghost use Prim.Native.Nat.{_≤_};
@@ -124,7 +124,7 @@ pub fn state(s: Session, rows: &[u64]) {
 }
 
 // The answer of a call, with what it left.
-pub fn outcome(o: Outcome, rows: &[u64]) {
+pub fn outcome(o: After, rows: &[u64]) {
     let reply = o.reply;
     replied(reply);
     state(o.session, rows);

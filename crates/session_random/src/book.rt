@@ -31,7 +31,7 @@ pub struct Answer {
 }
 
 // The book after a call, and the answer.
-pub struct Turned {
+pub struct Noted {
     pub book: Book,
     pub answer: Answer,
 }
@@ -64,18 +64,18 @@ pub fn form(kind: usize, number: usize, detail: usize) -> Answer {
 }
 
 // Refusal n: the book stays as it is.
-fn refused(b: Book, n: usize, detail: usize) -> Turned {
-    Turned {
+fn refused(b: Book, n: usize, detail: usize) -> Noted {
+    Noted {
         book: b,
         answer: form(3, n, detail),
     }
 }
 
 // An accepted call, with these starts from now on.
-fn accepted(b: Book, starts: [u16; 6], kind: usize, number: usize) -> Turned {
+fn accepted(b: Book, starts: [u16; 6], kind: usize, number: usize) -> Noted {
     let mut book = b;
     book.starts = starts;
-    Turned {
+    Noted {
         book: book,
         answer: form(kind, number, 0),
     }
@@ -165,7 +165,7 @@ fn placeable(d: Drawn, b: Book, op: usize, at: usize) -> Answer {
 }
 
 // Placing.
-fn place(d: Drawn, b: Book, op: usize, at: usize) -> Turned {
+fn place(d: Drawn, b: Book, op: usize, at: usize) -> Noted {
     let a = placeable(d, b, op, at);
     if a.kind == 3 {
         return refused(b, a.number, a.detail);
@@ -175,7 +175,7 @@ fn place(d: Drawn, b: Book, op: usize, at: usize) -> Turned {
 }
 
 // Forcing: only the operation itself has to be right at its start.
-fn force(d: Drawn, b: Book, op: usize, at: usize) -> Turned {
+fn force(d: Drawn, b: Book, op: usize, at: usize) -> Noted {
     let old = b.starts;
     let alone = set([NOWHERE; 6], op, at);
     let a = tested(d, &old, &alone, op, at);
@@ -188,7 +188,7 @@ fn force(d: Drawn, b: Book, op: usize, at: usize) -> Turned {
 }
 
 // Removing.
-fn remove(d: Drawn, b: Book, op: usize) -> Turned {
+fn remove(d: Drawn, b: Book, op: usize) -> Noted {
     let starts = b.starts;
     if d.n <= op {
         return refused(b, 12, op);
@@ -200,7 +200,7 @@ fn remove(d: Drawn, b: Book, op: usize) -> Turned {
 }
 
 // A checkpoint.
-fn checkpoint(b: Book) -> Turned {
+fn checkpoint(b: Book) -> Noted {
     let open = b.open;
     let starts = b.starts;
     if open < 16 {
@@ -214,7 +214,7 @@ fn checkpoint(b: Book) -> Turned {
 }
 
 // Releasing the newest checkpoint.
-fn release(b: Book) -> Turned {
+fn release(b: Book) -> Noted {
     let open = b.open;
     if open == 0 {
         return refused(b, 19, 0);
@@ -226,7 +226,7 @@ fn release(b: Book) -> Turned {
 }
 
 // Going back to checkpoint m.
-fn rollback(b: Book, m: usize) -> Turned {
+fn rollback(b: Book, m: usize) -> Noted {
     let k = wrapping_sub_usize(m, 1);
     if b.open < m {
         return refused(b, 19, 0);
@@ -242,7 +242,7 @@ fn rollback(b: Book, m: usize) -> Turned {
 }
 
 // A call on the book.
-pub fn turn(d: Drawn, b: Book, c: Call) -> Turned {
+pub fn turn(d: Drawn, b: Book, c: Call) -> Noted {
     let kind = c.kind;
     match kind {
         0 => place(d, b, c.op, c.at),

@@ -1,7 +1,7 @@
 // The session against the book: the answer, the starts, the number of open checkpoints and the rows.
 use crate::book::Answer;
 use crate::book::Book;
-use crate::book::Turned;
+use crate::book::Noted;
 use crate::book::form;
 use session::Reply;
 use session::Session;
@@ -56,7 +56,7 @@ pub fn same_state(d: Drawn, s: Session, rows: &[u64; 8], b: Book) -> bool {
 }
 
 // Whether what a call answered and left is what it answered and left of the book.
-pub fn same(d: Drawn, s: Session, rows: &[u64; 8], a: Answer, t: Turned) -> bool {
+pub fn same(d: Drawn, s: Session, rows: &[u64; 8], a: Answer, t: Noted) -> bool {
     let b = t.book;
     let e = t.answer;
     if (a.kind != e.kind) | (a.number != e.number) | (a.detail != e.detail) {

@@ -8,8 +8,8 @@ mod tally;
 
 use book::Book;
 use calls::Call;
+use session::After;
 use session::Checked;
-use session::Outcome;
 use session::Session;
 use tally::Tally;
 use trial::draw;
@@ -28,7 +28,7 @@ struct Play {
 }
 
 // A call on the session.
-fn step(s: Session, rows: &mut [u64; 8], c: Call) -> Outcome
+fn step(s: Session, rows: &mut [u64; 8], c: Call) -> After
     requires { ⌜ Valid s (now rows) ⌝ }
     ensures { λ r. ⌜ Valid (r .session) (now (rows .exit)) ⌝ }
 {

@@ -12,15 +12,15 @@ use Rattle.model.specs.Lists.{upFrom}
 use Rattle.model.specs.Refusals.{Refusal, firstRefusal, answered, settled}
 use Rattle.model.specs.Loop.{Loop, size}
 use Rattle.model.specs.File.{fileChecks, loopOf, Accepted}
-use Rattle.model.specs.Legality as legality
+use Rattle.model.specs.Legality.{placed, meets, legal}
 use Rattle.model.specs.Table.{countOf, cellsOf}
-use Rattle.model.specs.Verifier.{Verdict, legal, lateAt, proposalChecks, verdict, verifyFile}
+use Rattle.model.specs.Verifier.{Verdict, isLegal, proposalChecks, verdict, verifyFile}
 use Rattle.model.proofs.Lists.{or-false-left, or-false-right, any-row, none-first}
-use Rattle.model.proofs.Checks.{passes-left, passes-right, passes-head, passes-tail, refusal-append}
+use Rattle.model.proofs.Checks.{passes-left, passes-right, passes-head, passes-tail, refusal-append, not-found}
 use Rattle.model.proofs.File.{accepted-ok}
 use Rattle.model.proofs.Verifier.{verdict-legal, legal-verdict, legal-once, once-legal}
-use Rattle.verifier.specs.Walk.{Proposal}
-use Rattle.verifier.proofs.Asked.{passes}
+use Rattle.verifier.specs.Walk.{oneEach, Proposal}
+use Rattle.verifier.proofs.Proposals.{passes}
 
 -- a proposal that passes its checks is one
 pub passes-asked : (l : Loop) (ii : ℕ) (xs : List ℕ) → firstRefusal (proposalChecks l ii xs) ≡ none → Proposal l ii xs
@@ -29,7 +29,7 @@ passes-asked l ii xs e = record {
   some = ltb-false ii 1 (or-false-left (ltb ii 1) (ltb 4096 ii) interval);
   short = ltb-false 4096 ii (or-false-right (ltb ii 1) (ltb 4096 ii) interval);
   all = ltb-false (length xs) (size l) (passes-head _ _ (passes-tail _ _ e));
-  early = λ o h. leb-false 4096 (getD xs o 0) (any-row late 0 (size l) o (none-first late (upFrom 0 (size l)) (not-late _ (passes-head _ _ (passes-tail _ _ (passes-tail _ _ e))))) (omega arith) (omega arith));
+  early = λ o h. leb-false 4096 (getD xs o 0) (any-row late 0 (size l) o (none-first late (upFrom 0 (size l)) (not-found 15 _ (passes-head _ _ (passes-tail _ _ (passes-tail _ _ e))))) (omega arith) (omega arith));
 }
   where
     late : ℕ → Bool
@@ -37,10 +37,6 @@ passes-asked l ii xs e = record {
 
     interval : (ltb ii 1 || ltb 4096 ii) ≡ false
     interval = passes-head _ _ e
-
-    not-late : (o : Option ℕ) → lateAt o .fails ≡ false → o ≡ none
-    not-late none q = refl
-    not-late (some o) q = let z : _≡_ {A = ℕ} 0 1 = cc in absurd (omega arith)
 
 -- an answer that is no refusal
 settled-answer : (o : Option Refusal) (v w : Verdict) → settled o v ≡ answered w → (o ≡ none) × (v ≡ w)
@@ -50,25 +46,25 @@ settled-answer (some r) v w e = let z : _≡_ {A = ℕ} 0 1 = cc in absurd (omeg
 module _ (f : List ℕ) (ii : ℕ) (xs : List ℕ) where
   -- the starts that count
   abbrev starts : List ℕ
-  starts = take (size (loopOf f)) xs
+  starts = oneEach (loopOf f) xs
 
   -- what `legal` says of file, interval and list
   pub record IsLegal : Type 0 where
     pub file : Accepted f
     pub asked : Proposal (loopOf f) ii xs
-    pub list : legality.legal (loopOf f) ii starts ≡ true
+    pub list : legal (loopOf f) ii starts ≡ true
 
-  pub says-legal : verifyFile f ii xs ≡ answered legal → IsLegal
+  pub says-legal : verifyFile f ii xs ≡ answered isLegal → IsLegal
   unfolding verifyFile
   says-legal e =
-      let s = settled-answer (firstRefusal (fileChecks f ++ proposalChecks (loopOf f) ii xs)) (verdict (loopOf f) ii starts) legal e in
+      let s = settled-answer (firstRefusal (fileChecks f ++ proposalChecks (loopOf f) ii xs)) (verdict (loopOf f) ii starts) isLegal e in
       record {
         file = passes-left (fileChecks f) (proposalChecks (loopOf f) ii xs) (s .0);
         asked = passes-asked (loopOf f) ii xs (passes-right (fileChecks f) (proposalChecks (loopOf f) ii xs) (s .0));
         list = verdict-legal (loopOf f) ii starts (s .1);
       }
 
-  pub legal-said : IsLegal → verifyFile f ii xs ≡ answered legal
+  pub legal-said : IsLegal → verifyFile f ii xs ≡ answered isLegal
   unfolding verifyFile
   legal-said h =
       ap (λ (o : Option Refusal). settled o (verdict (loopOf f) ii starts)) (refusal-append (fileChecks f) (proposalChecks (loopOf f) ii xs) (h .file) ∙ passes (loopOf f) ii xs (h .asked))
@@ -76,7 +72,7 @@ module _ (f : List ℕ) (ii : ℕ) (xs : List ℕ) where
 
   -- the list by its table: no cell is taken twice, and every dependence holds
   abbrev Tidy : Type 0
-  Tidy = (legality.meets (loopOf f) ii (legality.placed starts) ≡ true) × ((s r : ℕ) → countOf s r (cellsOf (loopOf f) ii (legality.placed starts)) ≤ 1)
+  Tidy = (meets (loopOf f) ii (placed starts) ≡ true) × ((s r : ℕ) → countOf s r (cellsOf (loopOf f) ii (placed starts)) ≤ 1)
 
   pub legal-tidy : IsLegal → Tidy
   legal-tidy h = legal-once (loopOf f) ii starts (accepted-ok f (h .file)) (h .list)

@@ -1,4 +1,4 @@
 -- Hand-written laws of the crate that belong to no one function.
-pub mod Asked
+pub mod Proposals
 pub mod Legal
 pub mod Pairs

@@ -9,20 +9,21 @@ use native.Mathlib.Omega.{arith}
 use lib.Dec.{leb, ltb}
 use lib.ListN.{length, getD, take}
 use borrow.Author.Tests.{eq-eqb, ne-eqb, ltb-false, le-ltb, le-leb, lt-leb}
-use Rattle.model.specs.Lists.{upFrom, pairs, any}
+use Rattle.model.specs.Lists.{upFrom, pairs, anyOf}
 use Rattle.model.specs.Loop.{Use, Op, Loop, noUse, size, opAt, useAt, OpOk, LoopOk}
 use Rattle.model.specs.Legality.{Placing, placed, conflict, selfConflict, conflictAt, selfConflictAt, pairConflict}
 use Rattle.model.proofs.Lists.{same-test, any-at, at-any, any-row, row-any, row-some, first-none, pairs-any, pairs-first}
-use Rattle.model.proofs.Placed.{placed-take}
-use Rattle.reservation.specs.Meeting.{coversCell, useMeets}
-use Rattle.reservation.proofs.Meeting.{two-uses}
-use Rattle.verifier.specs.Walk.{meetsAt, firstPair, Proposal}
+use Rattle.model.proofs.StartLists.{placed-take}
+use Rattle.reservation.specs.Overlaps.{coversCell, useMeets}
+use Rattle.reservation.proofs.Overlaps.{two-uses}
+use Rattle.model.specs.Verifier.{firstPair}
+use Rattle.verifier.specs.Walk.{oneEach, meetsAt, Proposal}
 
 -- ---- a pair
 
 -- the tests of a pair: each cycle of each use of the first against the second
 abbrev pub walkPair : ℕ → (a b : ℕ) → Op → Op → ℕ → ℕ → Bool
-walkPair ii a b p q s t = any (λ j. any (λ k. meetsAt ii a b q s t (useAt p j) k) (upFrom 0 (useAt p j .duration))) (upFrom 0 (length (p .uses)))
+walkPair ii a b p q s t = anyOf (λ j. anyOf (λ k. meetsAt ii a b q s t (useAt p j) k) (upFrom 0 (useAt p j .duration))) (upFrom 0 (length (p .uses)))
 
 module _ (ii : ℕ) (pos : 1 ≤ ii) (p q : Op) (ok : OpOk p) (s t : ℕ) where
   -- two operations conflict exactly where a cycle of a use of the first meets the second
@@ -33,23 +34,23 @@ module _ (ii : ℕ) (pos : 1 ≤ ii) (p q : Op) (ok : OpOk p) (s t : ℕ) where
   -- an operation conflicts with itself exactly where a use comes to a cycle of the interval or later
   pub walk-self : (a : ℕ) → selfConflict ii p ≡ walkPair ii a a p q s t
   unfolding selfConflict
-  walk-self a = rw (eq-eqb a a refl) (same-test (any (λ u. ltb ii (u .duration)) (p .uses)) (any uses-test (upFrom 0 (length (p .uses)))) away toward)
+  walk-self a = rw (eq-eqb a a refl) (same-test (anyOf (λ u. ltb ii (u .duration)) (p .uses)) (anyOf uses-test (upFrom 0 (length (p .uses)))) away toward)
     where
       uses-test : ℕ → Bool
-      uses-test j = any (λ k. leb ii k) (upFrom 0 (useAt p j .duration))
+      uses-test j = anyOf (λ k. leb ii k) (upFrom 0 (useAt p j .duration))
 
-      away : any (λ u. ltb ii (u .duration)) (p .uses) ≡ false → any uses-test (upFrom 0 (length (p .uses))) ≡ false
+      away : anyOf (λ u. ltb ii (u .duration)) (p .uses) ≡ false → anyOf uses-test (upFrom 0 (length (p .uses))) ≡ false
       away e =
           row-any uses-test 0 (length (p .uses)) (λ j x y. row-any (λ k. leb ii k) 0 (useAt p j .duration) (λ k v w.
           lt-leb ii k (omega (arith, ltb-false ii (useAt p j .duration) (any-at (λ u. ltb ii (u .duration)) (p .uses) j noUse e (omega arith))))))
 
-      toward : any uses-test (upFrom 0 (length (p .uses))) ≡ false → any (λ u. ltb ii (u .duration)) (p .uses) ≡ false
+      toward : anyOf uses-test (upFrom 0 (length (p .uses))) ≡ false → anyOf (λ u. ltb ii (u .duration)) (p .uses) ≡ false
       toward e = at-any (λ u. ltb ii (u .duration)) (p .uses) noUse (λ j l. le-ltb ii (useAt p j .duration) (short j l (decLt ii (useAt p j .duration))))
         where
           short : (j : ℕ) → j < length (p .uses) → Dec (ii < useAt p j .duration) → useAt p j .duration ≤ ii
           short j l (no m) = omega arith
           short j l (yes m) =
-              let u : any (λ k. leb ii k) (upFrom 0 (useAt p j .duration)) ≡ false = any-row uses-test 0 (length (p .uses)) j e (omega arith) (omega arith) in
+              let u : anyOf (λ k. leb ii k) (upFrom 0 (useAt p j .duration)) ≡ false = any-row uses-test 0 (length (p .uses)) j e (omega arith) (omega arith) in
               let f : leb ii ii ≡ false = any-row (λ k. leb ii k) 0 (useAt p j .duration) ii u (omega arith) (omega arith) in
               let g : leb ii ii ≡ true = le-leb ii ii (omega arith) in
               let z : _≡_ {A = ℕ} 0 1 = cc in absurd (omega arith)
@@ -100,7 +101,7 @@ module _ (l : Loop) (ok : LoopOk l) (ii : ℕ) (xs : List ℕ) (asked : Proposal
       → ((j : ℕ) → j < length (opAt l a .uses) → (k : ℕ) → k < useAt (opAt l a) j .duration → hit l ii xs a b j k ≡ false) → clash l ii xs (a, b) ≡ false
   hits-none a b m h all =
       clash-walk a b m h
-      ∙ row-any (λ j. any (hit l ii xs a b j) (upFrom 0 (useAt (opAt l a) j .duration))) 0 (length (opAt l a .uses)) (λ j x y.
+      ∙ row-any (λ j. anyOf (hit l ii xs a b j) (upFrom 0 (useAt (opAt l a) j .duration))) 0 (length (opAt l a .uses)) (λ j x y.
       row-any (hit l ii xs a b j) 0 (useAt (opAt l a) j .duration) (λ k v w. all j (omega arith) k (omega arith)))
 
   -- some cycle of a use does: it conflicts
@@ -108,18 +109,18 @@ module _ (l : Loop) (ok : LoopOk l) (ii : ℕ) (xs : List ℕ) (asked : Proposal
       → clash l ii xs (a, b) ≡ true
   hit-some a b j k m h p q e =
       clash-walk a b m h
-      ∙ row-some (λ i. any (hit l ii xs a b i) (upFrom 0 (useAt (opAt l a) i .duration))) (length (opAt l a .uses)) j p
+      ∙ row-some (λ i. anyOf (hit l ii xs a b i) (upFrom 0 (useAt (opAt l a) i .duration))) (length (opAt l a .uses)) j p
       (row-some (hit l ii xs a b j) (useAt (opAt l a) j .duration) k q e)
 
   -- the first pair that conflicts, where the walk comes to it
   pub walk-found : (a b j k : ℕ) → a ≤ b → b < size l → j < length (opAt l a .uses) → k < useAt (opAt l a) j .duration → hit l ii xs a b j k ≡ true
       → ((c : ℕ) → c < a → (d : ℕ) → c ≤ d → d < size l → clash l ii xs (c, d) ≡ false) → ((d : ℕ) → d < b → a ≤ d → clash l ii xs (a, d) ≡ false)
-      → firstPair l ii xs ≡ some (a, b)
+      → firstPair l ii (oneEach l xs) ≡ some (a, b)
   unfolding firstPair
   walk-found a b j k m h p q e before beside =
       pairs-first (clash l ii xs) (size l) a b m h (λ c d x y z. before c x d y z) (λ d x y. beside d y x) (hit-some a b j k m h p q e)
 
   -- there is none, where the walk passes all pairs
-  pub walk-none : ((c : ℕ) → c < size l → (d : ℕ) → c ≤ d → d < size l → clash l ii xs (c, d) ≡ false) → firstPair l ii xs ≡ none
+  pub walk-none : ((c : ℕ) → c < size l → (d : ℕ) → c ≤ d → d < size l → clash l ii xs (c, d) ≡ false) → firstPair l ii (oneEach l xs) ≡ none
   unfolding firstPair
   walk-none all = first-none (clash l ii xs) (pairs (size l)) (pairs-any (clash l ii xs) (size l) (λ a b x y. all a (omega arith) b x y))

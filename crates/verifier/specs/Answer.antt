@@ -14,7 +14,7 @@ use Rattle.verifier.specs.declared.walk.Pair.the-variants as pair
 
 -- what `verify` says
 abbrev pub verdictOf : Verdict → Answer model.Verdict
-verdictOf verdict.Legal = answered model.legal
+verdictOf verdict.Legal = answered model.isLegal
 verdictOf (verdict.Broken e) = answered (model.breach e)
 verdictOf (verdict.Conflict a b) = answered (model.clash a b)
 verdictOf (verdict.Refused n d) = refused (record { number = n; detail = d })

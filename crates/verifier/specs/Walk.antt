@@ -1,26 +1,21 @@
 -- The parts of the verdict, on a list of starts of which the first ones count. Assumes nothing.
 use mathlib.Core.Bool.{Bool, cond}
 use mathlib.Core.List.{List}
-use mathlib.Core.Option.{Option, some, Option·getD}
+use mathlib.Core.Option.{some, Option·getD}
 use Prim.Native.Nat.{ℕ, _+_, _%_, _≤_, _<_}
 use lib.Dec.{eqb, leb}
 use lib.ListN.{length, getD, take}
-use Rattle.model.specs.Lists.{upFrom, pairs, first}
-use Rattle.model.specs.Loop.{Use, Op, Loop, size, depAt}
-use Rattle.model.specs.Legality.{placed, broken, pairConflict}
-use Rattle.reservation.specs.Meeting.{coversCell}
+use Rattle.model.specs.Lists.{upFrom, first}
+use Rattle.model.specs.Loop.{Use, Op, Loop, size}
+use Rattle.reservation.specs.Overlaps.{coversCell}
 
 -- the first of n starts that is not below 4,096, n where there is none
 unfoldable pub firstLate : List ℕ → ℕ → ℕ
 firstLate xs n = Option·getD (first (λ o. leb 4096 (getD xs o 0)) (upFrom 0 n)) n
 
--- the first broken dependence
-unfoldable pub firstBroken : Loop → ℕ → List ℕ → Option ℕ
-firstBroken l ii xs = first (λ e. broken ii (placed (take (size l) xs)) (depAt l e)) (upFrom 0 (length (l .deps)))
-
--- the first pair that conflicts
-unfoldable pub firstPair : Loop → ℕ → List ℕ → Option (ℕ × ℕ)
-firstPair l ii xs = first (pairConflict l ii (placed (take (size l) xs))) (pairs (size l))
+-- the starts that count: the first ones, one for each operation
+abbrev pub oneEach : Loop → List ℕ → List ℕ
+oneEach l xs = take (size l) xs
 
 -- whether cycle k of use u of operation a, started at s, meets operation b, started at t; a against itself where they are one
 abbrev pub meetsAt : ℕ → (a b : ℕ) → Op → ℕ → ℕ → Use → ℕ → Bool

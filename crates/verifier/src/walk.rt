@@ -17,8 +17,9 @@ ghost use lib.ListN.{length, getD};
 ghost use Rattle.model.specs.Loop.{noUse, size, opAt, allUses};
 ghost use Rattle.model.specs.File.{loopOf, Accepted};
 ghost use Rattle.reservation.specs.Seats.{brokenOf};
+ghost use Rattle.model.specs.Verifier.{firstBroken, firstPair};
 ghost use Rattle.verifier.specs.Answer.{pairOf};
-ghost use Rattle.verifier.specs.Walk.{firstBroken, firstPair, meetsAt, firstLate, Proposal};
+ghost use Rattle.verifier.specs.Walk.{oneEach, meetsAt, firstLate, Proposal};
 
 // No pair conflicts, or the first pair that does.
 pub enum Pair {
@@ -44,7 +45,7 @@ pub fn first_late(starts: &[u16], n: usize) -> usize
 // The first dependence that the starts break.
 pub fn first_broken(file: &[u8], interval: usize, starts: &[u16]) -> Broken
     requires { ⌜ Accepted (now file) × Proposal (loopOf (now file)) interval (now starts) ⌝ }
-    ensures { λ r. ⌜ brokenOf r ≡ firstBroken (loopOf (now (file .entry))) interval (now (starts .entry)) ⌝ }
+    ensures { λ r. ⌜ brokenOf r ≡ firstBroken (loopOf (now (file .entry))) interval (oneEach (loopOf (now (file .entry))) (now (starts .entry))) ⌝ }
 {
     let m = dep_count(file);
     let mut e = 0;
@@ -90,7 +91,7 @@ fn meets(
 // first conflict.
 pub fn first_pair(file: &[u8], interval: usize, starts: &[u16]) -> Pair
     requires { ⌜ Accepted (now file) × Proposal (loopOf (now file)) interval (now starts) ⌝ }
-    ensures { λ r. ⌜ pairOf r ≡ firstPair (loopOf (now (file .entry))) interval (now (starts .entry)) ⌝ }
+    ensures { λ r. ⌜ pairOf r ≡ firstPair (loopOf (now (file .entry))) interval (oneEach (loopOf (now (file .entry))) (now (starts .entry))) ⌝ }
 {
     let n = op_count(file);
     let mut found = Pair::Nothing;

@@ -1,6 +1,6 @@
 -- `descent::choose` and `descent::try_start`, which call each other, meet their contracts. What is left of the budget falls: with `left` of it, choose has 2 * left + 1
 -- and try_start 2 * left + 2, and choose pays for a start before it tries it.
--- The invariant of the loop is `Turn`: what is left to do comes to what the whole comes to. Assumes nothing.
+-- The invariant of the loop is `AtProbe`: what is left to do comes to what the whole comes to. Assumes nothing.
 use mathlib.Core.Path.{_≡_, refl, ap}
 use mathlib.Core.List.{List}
 use mathlib.Core.Logic.{inl, inr, ⊎-elim}
@@ -13,8 +13,8 @@ use borrow.Fn.PlainCycle.{Measures, is, falls, and}
 use Rattle.model.specs.Loop.{opAt}
 use Rattle.model.specs.File.{loopOf}
 use Rattle.reservation.specs.Place.{firstTaken}
-use Rattle.reservation.proofs.Taken.{free-place, taken-place}
-use Rattle.descent.proofs.Steps.{Turn, Turned, same-turn, leaf, begins, ends, breaks, may-try, skips, turned, op-few, unfit, can-reserve, deeper, can-release, given-back, back}
+use Rattle.reservation.proofs.TakenCells.{free-place, taken-place}
+use Rattle.descent.proofs.Steps.{AtProbe, AfterProbe, same-turn, leaf, begins, ends, breaks, may-try, skips, turned, op-few, unfit, can-reserve, deeper, can-release, given-back, back}
 use Rattle.descent.proofs.choose.Reads as choose
 use Rattle.descent.proofs.choose.Kinds as choose-kinds
 use Rattle.descent.proofs.+choose+try_start.Lts-choose as choose-lts
@@ -58,7 +58,7 @@ calls t =
 
 abbrev choose-Inv-loop : choose-lts.InvT-loop
 choose-Inv-loop file starts₀ rows₀ op n interval horizon left w first purse₀ s₀ starts rows purse s =
-    Turn file starts₀ rows₀ op n interval horizon left starts rows purse s
+    AtProbe file starts₀ rows₀ op n interval horizon left starts rows purse s
 
 abbrev choose-μ-loop : choose-lts.MeasureT-loop
 choose-μ-loop file starts₀ rows₀ op n interval horizon left w first purse₀ s₀ starts rows purse s = horizon - s
@@ -118,7 +118,7 @@ choose-try-start-requires t c κs =
 there : (t : ℕ) (f : choose-lts.After-try-start (tries t) (choose-at t) choose.Post choose-Inv-loop choose-μ-loop)
     → let g = f .before .before .before .before .before .before .before .before .before in
     let a = entry t g .args in
-    Turned (a .file .now) (a .starts .now) (a .rows .now) (a .op) (a .n) (a .interval) (a .horizon) (a .left)
+    AfterProbe (a .file .now) (a .starts .now) (a .rows .now) (a .op) (a .n) (a .interval) (a .horizon) (a .left)
     (f .try-start .last .1 .0) (f .try-start .last .1 .1 .0) (f .try-start .result) (g .loop .s)
 there t f =
     let e = f .before .before .before .before .before .before .before in

@@ -14,8 +14,8 @@ use Rattle.loop_file.specs.declared.reader.Part.{Part}
 use Rattle.loop_file.specs.declared.reader.Part.the-variants.{Refused}
 use Rattle.loop_file.specs.declared.Reading.{Reading}
 use Rattle.loop_file.specs.Read.{refusal, Counts, partOf, bodyChecks, asReading, readingOf, counted}
-use Rattle.loop_file.proofs.Settled.{fine-none, fine-value, refused-some}
-use Rattle.loop_file.proofs.Joined.{head-refused, contents-refused, bodies-come}
+use Rattle.loop_file.proofs.CheckAnswers.{fine-none, fine-value, refused-some}
+use Rattle.loop_file.proofs.FileChecks.{head-refused, contents-refused, bodies-come}
 use Rattle.loop_file.proofs.Answers.{counted-refused, counted-accepted}
 use Rattle.loop_file.proofs.read.Statement.{statement}
 use Rattle.loop_file.proofs.read.Tie as tie

@@ -1,7 +1,7 @@
 -- `mw_bounds` meets its contract: what the bounds say, in numbers. Assumes nothing.
 use mathlib.Core.Path.{refl}
 use native.Mathlib.Omega.{arith}
-use Rattle.mwelitunga.proofs.Told.{bounds-told}
+use Rattle.mwelitunga.proofs.Words.{bounds-told}
 use Rattle.mwelitunga.proofs.mw_bounds.Statement.{statement}
 use Rattle.mwelitunga.proofs.mw_bounds.Tie as tie
 

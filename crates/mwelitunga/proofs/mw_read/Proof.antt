@@ -2,7 +2,7 @@
 use mathlib.Core.Path.{refl}
 use native.Mathlib.Omega.{arith}
 use Rattle.loop_file.specs.Read.{readingOf}
-use Rattle.mwelitunga.proofs.Told.{told}
+use Rattle.mwelitunga.proofs.Words.{told}
 use Rattle.mwelitunga.proofs.mw_read.Statement.{statement}
 use Rattle.mwelitunga.proofs.mw_read.Tie as tie
 

@@ -1,7 +1,7 @@
 -- `mw_search` meets its contract: what the search says, in numbers. Assumes nothing.
 use mathlib.Core.Path.{refl}
 use native.Mathlib.Omega.{arith}
-use Rattle.mwelitunga.proofs.Told.{search-told}
+use Rattle.mwelitunga.proofs.Words.{search-told}
 use Rattle.mwelitunga.proofs.mw_search.Statement.{statement}
 use Rattle.mwelitunga.proofs.mw_search.Tie as tie
 

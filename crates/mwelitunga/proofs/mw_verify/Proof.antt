@@ -2,7 +2,7 @@
 use mathlib.Core.Path.{refl}
 use native.Mathlib.Omega.{arith}
 use Rattle.verifier.specs.Answer.{verdictOf}
-use Rattle.mwelitunga.proofs.Told.{told}
+use Rattle.mwelitunga.proofs.Words.{told}
 use Rattle.mwelitunga.proofs.mw_verify.Statement.{statement}
 use Rattle.mwelitunga.proofs.mw_verify.Tie as tie
 

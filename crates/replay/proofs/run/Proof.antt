@@ -7,11 +7,11 @@ use native.Mathlib.Omega.{arith}
 use lib.ListN.{length, getD}
 use Rattle.model.proofs.Firsts.{getD-within}
 use Rattle.session.specs.View.{blank, Valid}
-use Rattle.session.specs.declared.Starts.{Starts}
+use Rattle.session.specs.declared.OpStarts.{OpStarts}
 use Rattle.session.proofs.Calls.{stepped-length}
-use Rattle.replay.proofs.Joining.{turned-grown, turned-kept}
+use Rattle.replay.proofs.CallParts.{turned-grown, turned-kept}
 use Rattle.replay.specs.Replay.{firstCalls, Made}
-use Rattle.replay.proofs.Writing.{length-written}
+use Rattle.replay.proofs.Words.{length-written}
 use Rattle.replay.proofs.Replays.{made-none, made-next}
 use Rattle.replay.proofs.run.Statement.{statement}
 use Rattle.replay.proofs.run.Tie as tie
@@ -87,7 +87,7 @@ wanted-there : (c : tie.After-place-of Inv-loop μ-loop) → 1 ≤ second (turn 
 wanted-there c low high =
     let e = c .place-of .ensures in
     ap (λ (k : ℕ). getD (turn c .loop .t .saved) k blank .at) (sym (e .1 low high))
-    ∙ ap (λ (x : Starts). x .at) (getD-within (turn c .loop .t .saved) (c .place-of .result) blank (record { at = [] }) (omega (arith, e .0, turn c .loop .inv .1 .saved-all)))
+    ∙ ap (λ (x : OpStarts). x .at) (getD-within (turn c .loop .t .saved) (c .place-of .result) blank (record { at = [] }) (omega (arith, e .0, turn c .loop .inv .1 .saved-all)))
 
 make-requires : tie.Need-make-requires Inv-loop μ-loop
 make-requires c κs =

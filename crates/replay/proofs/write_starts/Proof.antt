@@ -5,7 +5,7 @@ use native.Mathlib.Omega.{arith}
 use borrow.Author.Needs.{needs}
 use lib.ListN.{drop}
 use Rattle.replay.specs.Words.{written}
-use Rattle.replay.proofs.Writing.{written-rest, written-end}
+use Rattle.replay.proofs.Words.{written-rest, written-end}
 use Rattle.replay.proofs.write_starts.Statement.{statement}
 use Rattle.replay.proofs.write_starts.Tie as tie
 

@@ -1,6 +1,6 @@
 -- `checkpoint` meets its contract. Assumes nothing.
 use native.Mathlib.Omega.{arith}
-use Rattle.session.proofs.Stepping.{full, stepped-checkpoint}
+use Rattle.session.proofs.Steps.{full, stepped-checkpoint}
 use Rattle.session.proofs.checkpoint.Statement.{statement}
 use Rattle.session.proofs.checkpoint.Tie as tie
 

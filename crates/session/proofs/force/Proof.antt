@@ -3,7 +3,7 @@ use mathlib.Core.Path.{refl}
 use native.Mathlib.Omega.{arith}
 use borrow.Author.Needs.{needs}
 use Rattle.model.specs.Session as model
-use Rattle.session.proofs.Stepping.{stepped-plain}
+use Rattle.session.proofs.Steps.{stepped-plain}
 use Rattle.session.proofs.force.Statement.{statement}
 use Rattle.session.proofs.force.Tie as tie
 

@@ -1,6 +1,6 @@
 -- `release` meets its contract. Assumes nothing.
 use borrow.Author.Needs.{needs}
-use Rattle.session.proofs.Stepping.{none-open, stepped-release}
+use Rattle.session.proofs.Steps.{none-open, stepped-release}
 use Rattle.session.proofs.release.Statement.{statement}
 use Rattle.session.proofs.release.Tie as tie
 

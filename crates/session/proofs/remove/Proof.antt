@@ -4,7 +4,7 @@ use native.Mathlib.Omega.{arith}
 use borrow.Author.Needs.{needs}
 use Rattle.model.specs.Session as model
 use Rattle.board.proofs.Boards.{board-far}
-use Rattle.session.proofs.Stepping.{stepped-plain}
+use Rattle.session.proofs.Steps.{stepped-plain}
 use Rattle.session.proofs.remove.Statement.{statement}
 use Rattle.session.proofs.remove.Tie as tie
 

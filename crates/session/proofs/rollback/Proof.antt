@@ -2,7 +2,7 @@
 use mathlib.Core.List.{[]}
 use native.Mathlib.Omega.{arith}
 use Rattle.board.proofs.Boards.{sane-more, board-far}
-use Rattle.session.proofs.Stepping.{no-mark, not-open, wanted-sane, stepped-rollback}
+use Rattle.session.proofs.Steps.{no-mark, not-open, wanted-sane, stepped-rollback}
 use Rattle.session.proofs.rollback.Statement.{statement}
 use Rattle.session.proofs.rollback.Tie as tie
 

@@ -5,15 +5,15 @@ use Prim.Native.Nat.{ℕ, _-_, _≤_}
 use native.Mathlib.Omega.{arith}
 use borrow.Author.Needs.{needs}
 use lib.ListN.{length, getD}
-use Rattle.model.specs.Lists.{upFrom, count}
+use Rattle.model.specs.Lists.{upFrom, countIf}
 use Rattle.model.specs.Search.{earlier, orderOf}
 use Rattle.stages.specs.Order.{comesBefore}
-use Rattle.stages.proofs.Turns.{count-yes, count-no}
+use Rattle.model.proofs.Lists.{count-yes, count-no}
 use Rattle.stages.proofs.order.Statement.{statement}
 use Rattle.stages.proofs.order.Tie as tie
 
 abbrev Inv-loop : tie.InvT-loop
-Inv-loop interval starts op own n₀ p₀ n p = (p ≤ length starts) × (n ≤ p) × (n ≡ count (earlier interval starts op) (upFrom 0 p))
+Inv-loop interval starts op own n₀ p₀ n p = (p ≤ length starts) × (n ≤ p) × (n ≡ countIf (earlier interval starts op) (upFrom 0 p))
 
 abbrev μ-loop : tie.MeasureT-loop
 μ-loop interval starts op own n₀ p₀ n p = length starts - p
@@ -25,7 +25,7 @@ start-of-requires : tie.Need-start-of-requires Inv-loop μ-loop
 start-of-requires c κs = search needs
 
 loop-holds : tie.Need-loop-holds Inv-loop μ-loop
-unfolding count upFrom
+unfolding countIf upFrom
 loop-holds c = omega arith
 
 mul-comes-before : tie.Need-mul-comes-before Inv-loop μ-loop
@@ -67,7 +67,7 @@ returns : tie.Need-returns Inv-loop μ-loop
 unfolding orderOf
 returns c =
     let a = c .before .before .before .before .args in
-    c .before .loop .inv .2 ∙ ap (λ (k : ℕ). count (earlier (a .interval) (a .starts .now) (a .op)) (upFrom 0 k)) (omega arith)
+    c .before .loop .inv .2 ∙ ap (λ (k : ℕ). countIf (earlier (a .interval) (a .starts .now) (a .op)) (upFrom 0 k)) (omega arith)
 
 pub order-spec : {M : Type 1} → statement M
 order-spec =

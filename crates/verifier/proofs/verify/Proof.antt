@@ -8,13 +8,13 @@ use lib.ListN.{length}
 use Rattle.model.specs.Refusals.{answered, refused}
 use Rattle.model.specs.Loop.{size}
 use Rattle.model.specs.File.{Accepted, loopOf}
-use Rattle.model.specs.Verifier.{judge, verifyFile}
+use Rattle.model.specs.Verifier.{judge, verifyFile, firstBroken, firstPair}
 use Rattle.loop_file.specs.Read.{refusal, readingOf}
 use Rattle.loop_file.proofs.Answers.{read-accepted, read-refused}
 use Rattle.reservation.specs.Seats.{brokenOf}
-use Rattle.verifier.specs.Walk.{firstLate, firstBroken, firstPair, Proposal}
+use Rattle.verifier.specs.Walk.{firstLate, oneEach, Proposal}
 use Rattle.verifier.specs.Answer.{verdictOf, asVerdict, asBroken, asConflict, pairOf}
-use Rattle.verifier.proofs.Asked.{none-refused, long-refused, short-refused, late-refused, asks, file-refused, proposal-refused, by-walks}
+use Rattle.verifier.proofs.Proposals.{none-refused, long-refused, short-refused, late-refused, asks, file-refused, proposal-refused, by-walks}
 use Rattle.verifier.proofs.verify.Statement.{statement}
 use Rattle.verifier.proofs.verify.Tie as tie
 
@@ -105,8 +105,8 @@ asked c =
     asks (loopOf (file (known c))) (g .interval) (g .starts .now) (s .before .before .if1 .left) (s .before .if2 .left) (enough s) (omega (arith, c .if4 .left, late-is (c .before), ops-are (known c)))
 
 -- the answer is what the walks find
-by-found : (c : tie.Else4) (e : Option ℕ) (p : Option (ℕ × ℕ)) → let g = start (known c) .args in firstBroken (loopOf (file (known c))) (g .interval) (g .starts .now) ≡ e
-    → firstPair (loopOf (file (known c))) (g .interval) (g .starts .now) ≡ p → answered (judge e p) ≡ verifyFile (file (known c)) (g .interval) (g .starts .now)
+by-found : (c : tie.Else4) (e : Option ℕ) (p : Option (ℕ × ℕ)) → let g = start (known c) .args in firstBroken (loopOf (file (known c))) (g .interval) (oneEach (loopOf (file (known c))) (g .starts .now)) ≡ e
+    → firstPair (loopOf (file (known c))) (g .interval) (oneEach (loopOf (file (known c))) (g .starts .now)) ≡ p → answered (judge e p) ≡ verifyFile (file (known c)) (g .interval) (g .starts .now)
 by-found c e p x y =
     let g = start (known c) .args in
     sym (by-walks (file (known c)) (g .interval) (g .starts .now) (accepted (known c)) (asked c) ∙ ap₂ (λ (d : Option ℕ) (q : Option (ℕ × ℕ)). answered (judge d q)) x y)
@@ -131,7 +131,7 @@ returns-6 c =
 
 -- ---- once the dependences hold
 
-none-broken : (c : tie.After-enum-told2) → let k = known (c .before .before .before) in firstBroken (loopOf (file k)) (start k .args .interval) (start k .args .starts .now) ≡ none
+none-broken : (c : tie.After-enum-told2) → let k = known (c .before .before .before) in firstBroken (loopOf (file k)) (start k .args .interval) (oneEach (loopOf (file k)) (start k .args .starts .now)) ≡ none
 none-broken c = sym (c .before .before .first-broken .ensures) ∙ ap brokenOf (c .enum-told2 .given .1)
 
 first-pair-requires : tie.Need-first-pair-requires

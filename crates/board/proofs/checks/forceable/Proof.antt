@@ -1,15 +1,16 @@
--- `checks::forceable` meets its contract: one law of `Refusing` for each return. Assumes nothing.
+-- `checks::forceable` meets its contract: one law of `Refusals` for each return. Assumes nothing.
 use mathlib.Core.Path.{_≡_, sym, ap, _∙_}
 use mathlib.Core.Option.{none}
 use Prim.Native.Nat.{ℕ}
 use native.Mathlib.Omega.{arith}
 use lib.ListN.{replicate, length-replicate}
 use Rattle.model.specs.Refusals.{firstRefusal}
+use Rattle.model.specs.Legality.{firstBreach}
 use Rattle.model.specs.File.{loopOf}
 use Rattle.model.proofs.File.{accepted-ok}
-use Rattle.reservation.specs.Seats.{seats, brokenOf, firstBreach}
+use Rattle.reservation.specs.Seats.{seats, brokenOf}
 use Rattle.board.specs.Checks.{refusalOf}
-use Rattle.board.proofs.Refusing.{common, known-inside, known-near, force-early, force-broken, force-clash, force-fine}
+use Rattle.board.proofs.Refusals.{common, known-inside, known-near, force-early, force-broken, force-clash, force-fine}
 use Rattle.board.proofs.checks.forceable.Statement.{statement}
 use Rattle.board.proofs.checks.forceable.Tie as tie
 

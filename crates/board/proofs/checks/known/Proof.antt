@@ -1,4 +1,4 @@
--- `checks::known` meets its contract: one law of `Refusing` for each return. Assumes nothing.
+-- `checks::known` meets its contract: one law of `Refusals` for each return. Assumes nothing.
 use mathlib.Core.Path.{_≡_, sym, _∙_}
 use Prim.Native.Nat.{_<_}
 use native.Mathlib.Omega.{arith}
@@ -7,7 +7,7 @@ use Rattle.model.specs.Loop.{size}
 use Rattle.model.specs.File.{loopOf}
 use Rattle.model.proofs.File.{accepted-ok}
 use Rattle.model.proofs.Firsts.{getD-within}
-use Rattle.board.proofs.Refusing.{no-such, is-taken, is-late, is-known}
+use Rattle.board.proofs.Refusals.{no-such, is-taken, is-late, is-known}
 use Rattle.board.proofs.checks.known.Statement.{statement}
 use Rattle.board.proofs.checks.known.Tie as tie
 

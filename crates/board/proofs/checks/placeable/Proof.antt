@@ -1,14 +1,15 @@
--- `checks::placeable` meets its contract: one law of `Refusing` for each return. Assumes nothing.
+-- `checks::placeable` meets its contract: one law of `Refusals` for each return. Assumes nothing.
 use mathlib.Core.Path.{_≡_, sym, ap, _∙_}
 use mathlib.Core.Option.{none}
 use native.Mathlib.Omega.{arith}
 use Rattle.model.specs.Refusals.{firstRefusal}
+use Rattle.model.specs.Legality.{firstBreach}
 use Rattle.model.specs.File.{loopOf}
 use Rattle.model.proofs.File.{accepted-ok}
-use Rattle.reservation.specs.Seats.{seats, brokenOf, firstBreach}
-use Rattle.reservation.proofs.Taken.{free-place, taken-place}
+use Rattle.reservation.specs.Seats.{seats, brokenOf}
+use Rattle.reservation.proofs.TakenCells.{free-place, taken-place}
 use Rattle.board.specs.Checks.{refusalOf}
-use Rattle.board.proofs.Refusing.{common, known-inside, known-near, place-early, place-broken, place-clash, place-fine}
+use Rattle.board.proofs.Refusals.{common, known-inside, known-near, place-early, place-broken, place-clash, place-fine}
 use Rattle.board.proofs.checks.placeable.Statement.{statement}
 use Rattle.board.proofs.checks.placeable.Tie as tie
 

@@ -1,4 +1,4 @@
--- `checks::removable` meets its contract: one law of `Refusing` for each return. Assumes nothing.
+-- `checks::removable` meets its contract: one law of `Refusals` for each return. Assumes nothing.
 use mathlib.Core.Path.{_≡_, sym, _∙_}
 use Prim.Native.Nat.{_<_}
 use native.Mathlib.Omega.{arith}
@@ -7,7 +7,7 @@ use Rattle.model.specs.Loop.{size}
 use Rattle.model.specs.File.{loopOf}
 use Rattle.model.proofs.File.{accepted-ok}
 use Rattle.model.proofs.Firsts.{getD-within}
-use Rattle.board.proofs.Refusing.{no-such, is-free, is-there}
+use Rattle.board.proofs.Refusals.{no-such, is-free, is-there}
 use Rattle.board.proofs.checks.removable.Statement.{statement}
 use Rattle.board.proofs.checks.removable.Tie as tie
 

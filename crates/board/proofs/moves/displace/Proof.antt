@@ -8,7 +8,7 @@ use Rattle.model.specs.Loop.{size}
 use Rattle.model.specs.File.{loopOf}
 use Rattle.board.specs.Moves.{Cleared}
 use Rattle.board.proofs.Boards.{few-operations, rest-length}
-use Rattle.board.proofs.Clearing.{clear-begin, clear-hit, clear-open, clear-placed, clear-keep, clear-lift}
+use Rattle.board.proofs.Obstacles.{clear-begin, clear-hit, clear-open, clear-placed, clear-keep, clear-lift}
 use Rattle.board.proofs.moves.displace.Statement.{statement}
 use Rattle.board.proofs.moves.displace.Tie as tie
 

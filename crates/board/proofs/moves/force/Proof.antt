@@ -12,8 +12,8 @@ use Rattle.model.specs.Session.{checks, force}
 use Rattle.board.specs.Board.{setupAs, bare}
 use Rattle.board.specs.Checks.{refusalOf}
 use Rattle.board.proofs.Boards.{board-far}
-use Rattle.board.proofs.Doing.{did-refused}
-use Rattle.board.proofs.Clearing.{force-inside, force-open, force-near, force-free, force-fits, did-force}
+use Rattle.board.proofs.Effects.{did-refused}
+use Rattle.board.proofs.Obstacles.{force-inside, force-open, force-near, force-free, force-fits, did-force}
 use Rattle.board.proofs.moves.force.Statement.{statement}
 use Rattle.board.proofs.moves.force.Tie as tie
 

@@ -1,4 +1,4 @@
--- `moves::in_the_way` meets its contract: one law of `Clearing` for each return. Assumes nothing.
+-- `moves::in_the_way` meets its contract: one law of `Obstacles` for each return. Assumes nothing.
 use mathlib.Core.Path.{_≡_, sym, ap, _∙_}
 use Prim.Native.Nat.{ℕ, _<_}
 use native.Mathlib.Omega.{arith}
@@ -6,7 +6,7 @@ use borrow.Author.Tests.{eq-eqb, ne-eqb}
 use lib.ListN.{getD}
 use Rattle.model.proofs.Firsts.{getD-within}
 use Rattle.board.proofs.Boards.{few-operations, sane-near}
-use Rattle.board.proofs.Clearing.{way-blank, way-hit, way-clash}
+use Rattle.board.proofs.Obstacles.{way-blank, way-hit, way-clash}
 use Rattle.board.proofs.moves.in_the_way.Statement.{statement}
 use Rattle.board.proofs.moves.in_the_way.Tie as tie
 

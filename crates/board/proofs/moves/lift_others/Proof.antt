@@ -8,7 +8,7 @@ use lib.ListN.{length, getD}
 use Rattle.model.proofs.Firsts.{getD-within}
 use Rattle.board.specs.Moves.{Thinned}
 use Rattle.board.proofs.Boards.{few-operations, sane-near, rest-length}
-use Rattle.board.proofs.Restoring.{thin-begin, thin-keep, thin-lift}
+use Rattle.board.proofs.Rollback.{thin-begin, thin-keep, thin-lift}
 use Rattle.board.proofs.moves.lift_others.Statement.{statement}
 use Rattle.board.proofs.moves.lift_others.Tie as tie
 

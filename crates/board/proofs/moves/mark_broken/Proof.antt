@@ -10,7 +10,7 @@ use Rattle.model.specs.File.{loopOf}
 use Rattle.model.proofs.File.{accepted-ok}
 use Rattle.board.specs.Moves.{HitsAre}
 use Rattle.board.proofs.Boards.{few-operations}
-use Rattle.board.proofs.Marking.{mark-begin, mark-skip, mark-target, mark-source}
+use Rattle.board.proofs.Hits.{mark-begin, mark-skip, mark-target, mark-source}
 use Rattle.board.proofs.moves.mark_broken.Statement.{statement}
 use Rattle.board.proofs.moves.mark_broken.Tie as tie
 

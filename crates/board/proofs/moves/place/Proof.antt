@@ -11,7 +11,7 @@ use Rattle.model.specs.Session.{checks, place}
 use Rattle.board.specs.Board.{setupAs, bare}
 use Rattle.board.specs.Checks.{refusalOf}
 use Rattle.board.proofs.Boards.{board-far}
-use Rattle.board.proofs.Doing.{blank-is, did-refused, place-inside, place-open, place-near, place-fits, did-place}
+use Rattle.board.proofs.Effects.{blank-is, did-refused, place-inside, place-open, place-near, place-fits, did-place}
 use Rattle.board.proofs.moves.place.Statement.{statement}
 use Rattle.board.proofs.moves.place.Tie as tie
 

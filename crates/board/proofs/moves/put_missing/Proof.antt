@@ -9,7 +9,7 @@ use Rattle.model.specs.Loop.{size}
 use Rattle.model.specs.File.{loopOf}
 use Rattle.model.proofs.Firsts.{getD-within}
 use Rattle.board.proofs.Boards.{few-operations, rest-length}
-use Rattle.board.proofs.Restoring.{Filled, fill-begin, fill-placed, fill-blank, fill-fits, fill-near, fill-put, fill-end}
+use Rattle.board.proofs.Rollback.{Filled, fill-begin, fill-placed, fill-blank, fill-fits, fill-near, fill-put, fill-end}
 use Rattle.board.proofs.moves.put_missing.Statement.{statement}
 use Rattle.board.proofs.moves.put_missing.Tie as tie
 

@@ -10,7 +10,7 @@ use Rattle.model.specs.Refusals.{firstRefusal}
 use Rattle.model.specs.Session.{checks, remove}
 use Rattle.board.specs.Board.{setupAs, bare}
 use Rattle.board.specs.Checks.{refusalOf}
-use Rattle.board.proofs.Doing.{did-refused, remove-inside, remove-placed, did-remove}
+use Rattle.board.proofs.Effects.{did-refused, remove-inside, remove-placed, did-remove}
 use Rattle.board.proofs.moves.remove.Statement.{statement}
 use Rattle.board.proofs.moves.remove.Tie as tie
 

@@ -2,7 +2,7 @@
 use mathlib.Core.Path.{sym}
 use borrow.Author.Needs.{needs}
 use lib.Seq.{length-take-le}
-use Rattle.board.proofs.Restoring.{thin-end, restored}
+use Rattle.board.proofs.Rollback.{thin-end, restored}
 use Rattle.board.proofs.moves.restore.Statement.{statement}
 use Rattle.board.proofs.moves.restore.Tie as tie
 

@@ -11,7 +11,7 @@ use Rattle.model.specs.File.{loopOf}
 use Rattle.model.proofs.File.{accepted-ok}
 use Rattle.bounds.specs.Rounds.{rounds, Holds}
 use Rattle.bounds.specs.Walks.{Refuted}
-use Rattle.bounds.proofs.Halving.{zeros-hold, round-small, round-calm, round-more}
+use Rattle.bounds.proofs.Bisection.{zeros-hold, round-small, round-calm, round-more}
 use Rattle.bounds.proofs.recurrence.feasible.Statement.{statement}
 use Rattle.bounds.proofs.recurrence.feasible.Tie as tie
 

@@ -5,7 +5,7 @@ use borrow.Author.Tests.{not-true, not-false}
 use Rattle.model.specs.Loop.{LoopOk}
 use Rattle.model.specs.File.{loopOf}
 use Rattle.model.proofs.File.{accepted-ok}
-use Rattle.bounds.proofs.Halving.{Between, top-no, top-yes, half-yes, half-no, between-found}
+use Rattle.bounds.proofs.Bisection.{Between, top-no, top-yes, half-yes, half-no, between-found}
 use Rattle.bounds.proofs.recurrence.recurrence.Statement.{statement}
 use Rattle.bounds.proofs.recurrence.recurrence.Tie as tie
 

@@ -10,7 +10,7 @@ use Rattle.model.specs.File.{loopOf}
 use Rattle.model.proofs.File.{accepted-ok}
 use Rattle.bounds.specs.Rounds.{relaxTo, round, metTo, Holds, nats}
 use Rattle.bounds.proofs.Rounds.{relaxTo-none}
-use Rattle.bounds.proofs.Held.{turn, turn-small}
+use Rattle.bounds.proofs.Arrays.{turn, turn-small}
 use Rattle.bounds.proofs.recurrence.round.Statement.{statement}
 use Rattle.bounds.proofs.recurrence.round.Tie as tie
 

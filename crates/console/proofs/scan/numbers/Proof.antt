@@ -6,7 +6,7 @@ use native.Mathlib.Omega.{arith}
 use lib.ListN.{length, drop, set, length-set}
 use lib.Seq.{drop-length}
 use Rattle.console.specs.Scan.{valueAt, nextAt, places, values}
-use Rattle.console.proofs.Scanning.{next-value, next-place}
+use Rattle.console.proofs.Scans.{next-value, next-place}
 use Rattle.console.proofs.scan.numbers.Statement.{statement}
 use Rattle.console.proofs.scan.numbers.Tie as tie
 

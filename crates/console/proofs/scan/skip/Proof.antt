@@ -5,7 +5,7 @@ use native.Mathlib.Omega.{arith}
 use borrow.Author.Tests.{ne-eqb}
 use lib.ListN.{length, drop}
 use Rattle.console.specs.Scan.{blanks, begin}
-use Rattle.console.proofs.Scanning.{blank, not-blank, at-end}
+use Rattle.console.proofs.Scans.{blank, not-blank, at-end}
 use Rattle.console.proofs.scan.skip.Statement.{statement}
 use Rattle.console.proofs.scan.skip.Tie as tie
 

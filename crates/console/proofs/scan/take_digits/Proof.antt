@@ -6,7 +6,7 @@ use mathlib.Core.Bool.{false}
 use borrow.Author.Tests.{le-leb, lt-leb}
 use lib.ListN.{length, drop, getD}
 use Rattle.console.specs.Scan.{isFigure, figures, valueFrom}
-use Rattle.console.proofs.Scanning.{figure, figure-value, no-figure, at-end}
+use Rattle.console.proofs.Scans.{figure, figure-value, no-figure, at-end}
 use Rattle.console.proofs.scan.take_digits.Statement.{statement}
 use Rattle.console.proofs.scan.take_digits.Tie as tie
 

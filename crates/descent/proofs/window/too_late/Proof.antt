@@ -12,9 +12,8 @@ use Rattle.model.specs.Loop.{Dep, DepOk, size, depAt}
 use Rattle.model.specs.File.{loopOf}
 use Rattle.model.proofs.File.{accepted-ok}
 use Rattle.model.proofs.Machine.{is-fits, is-cast, is-back, is-got}
-use Rattle.model.proofs.Signed.{Is, is-add, is-subtract, leb-same, parts}
+use Rattle.model.proofs.Signed.{Is, is-add, is-subtract, leb-same, parts, below-zero, cast-is, cast-fits}
 use Rattle.model.proofs.Delays.{delay-late, delay-early, lag-le, holds-lag}
-use Rattle.descent.proofs.Differences.{below-zero, cast-is, cast-fits}
 use Rattle.descent.proofs.window.too_late.Statement.{statement}
 use Rattle.descent.proofs.window.too_late.Tie as tie
 

@@ -8,9 +8,9 @@ use Rattle.model.specs.Refusals.{firstRefusal, refused, settle}
 use Rattle.model.specs.File.{uses, lengthOf, usesAt, depsAt, opCount, depCount, firstUse, usesChecks}
 use Rattle.model.proofs.File.{Shape, shape}
 use Rattle.loop_file.specs.Read.{refusal, partOf, opsTable, usesTable, depsTable}
-use Rattle.loop_file.proofs.Settled.{fine-none, fine-value, refused-some, none-answered, some-refused}
+use Rattle.loop_file.proofs.CheckAnswers.{fine-none, fine-value, refused-some, none-answered, some-refused}
 use Rattle.loop_file.proofs.Tables.{uses-few}
-use Rattle.loop_file.proofs.Joined.{sum-refused, sum-right, ops-refused, uses-refused, deps-come}
+use Rattle.loop_file.proofs.FileChecks.{sum-refused, sum-right, ops-refused, uses-refused, deps-come}
 use Rattle.loop_file.proofs.reader.bodies.Statement.{statement}
 use Rattle.loop_file.proofs.reader.bodies.Tie as tie
 

@@ -16,7 +16,7 @@ use Rattle.model.proofs.Checks.{refusal-append, refusal-early}
 use Rattle.loop_file.specs.Read.{partOf, refusal}
 use Rattle.loop_file.specs.declared.reader.Part.{Part}
 use Rattle.loop_file.specs.declared.reader.Part.the-variants as part
-use Rattle.loop_file.proofs.Settled.{fine-none, fine-value, refused-some, none-answered, some-refused}
+use Rattle.loop_file.proofs.CheckAnswers.{fine-none, fine-value, refused-some, none-answered, some-refused}
 use Rattle.loop_file.proofs.reader.contents.Statement.{statement}
 use Rattle.loop_file.proofs.reader.contents.Tie as tie
 

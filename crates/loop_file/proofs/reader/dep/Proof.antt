@@ -12,7 +12,7 @@ use mir.ValLaws.{toZ-ofZ}
 use borrow.Author.Tests.{lt-ltb, le-ltb, le-leb, lt-leb}
 use Rattle.model.specs.Refusals.{firstRefusal}
 use Rattle.model.specs.File.{byteAt, signedByte, depChecks}
-use Rattle.loop_file.proofs.Tables.{outside}
+use Rattle.model.proofs.Signed.{outside-range}
 use Rattle.loop_file.proofs.reader.dep.Statement.{statement}
 use Rattle.loop_file.proofs.reader.dep.Tie as tie
 
@@ -72,7 +72,7 @@ returns-3 : tie.Need-returns-3
 unfolding depChecks firstRefusal
 returns-3 c =
     let p = ends (c .before .before .before) in
-    rw (p .0, p .1, outside, rw (delay (c .before)) at (c .if3 .taken))
+    rw (p .0, p .1, outside-range, rw (delay (c .before)) at (c .if3 .taken))
 
 add-t14 : tie.Need-add-t14
 add-t14 c = omega arith
@@ -82,7 +82,7 @@ unfolding depChecks firstRefusal
 returns-4 c =
     let p = ends (c .before .before .before .before) in
     let d = delay (c .before .before) in
-    rw (p .0, p .1, outside, rw d at (c .before .if3 .left), rw d at (c .if4 .taken))
+    rw (p .0, p .1, outside-range, rw d at (c .before .if3 .left), rw d at (c .if4 .taken))
 
 add-if5 : tie.Need-add-if5
 add-if5 c = omega arith
@@ -99,7 +99,7 @@ delay-right : (c : tie.Else4) → let a = c .before .before .before .before .bef
     not (leZ (negsuc 63) z && leZ z (pos 64)) ≡ false
 delay-right c =
     let d = delay (c .before .before) in
-    rw (outside, rw d at (c .before .if3 .left), rw d at (c .if4 .left))
+    rw (outside-range, rw d at (c .before .if3 .left), rw d at (c .if4 .left))
 
 returns-5 : tie.Need-returns-5
 unfolding depChecks firstRefusal

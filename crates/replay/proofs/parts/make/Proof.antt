@@ -1,4 +1,4 @@
--- `parts::make` meets its contract: a law of `Joining` for each return. Assumes nothing.
+-- `parts::make` meets its contract: a law of `CallParts` for each return. Assumes nothing.
 use mathlib.Core.Path.{_≡_, refl}
 use Prim.Native.Nat.{_≤_}
 use native.Mathlib.Omega.{arith}
@@ -6,8 +6,8 @@ use Rattle.model.specs.Session as model
 use Rattle.session.specs.View.{blank}
 use Rattle.replay.specs.Parts.{callOf}
 use Rattle.board.proofs.Boards.{sane-more, board-far}
-use Rattle.session.proofs.Stepping.{stepped-plain, full, none-open, no-mark, not-open, wanted-sane}
-use Rattle.replay.proofs.Joining.{kind-place, kind-force, kind-remove, kind-checkpoint, kind-release, kind-rollback, turned-did, turned-checkpoint, turned-release, turned-rollback}
+use Rattle.session.proofs.Steps.{stepped-plain, full, none-open, no-mark, not-open, wanted-sane}
+use Rattle.replay.proofs.CallParts.{kind-place, kind-force, kind-remove, kind-checkpoint, kind-release, kind-rollback, turned-did, turned-checkpoint, turned-release, turned-rollback}
 use Rattle.replay.proofs.parts.make.Statement.{statement}
 use Rattle.replay.proofs.parts.make.Tie as tie
 

@@ -10,8 +10,8 @@ use Rattle.model.specs.File.{loopOf}
 use Rattle.model.proofs.File.{accepted-ok}
 use Rattle.reservation.specs.Rows.{overUses, lessBit}
 use Rattle.reservation.proofs.Bits.{less-other}
-use Rattle.reservation.proofs.Over.{length-uses, uses-turn}
-use Rattle.reservation.proofs.Turns.{UseHere, use-here}
+use Rattle.reservation.proofs.RowUpdates.{length-uses, uses-turn}
+use Rattle.reservation.proofs.UseNumbers.{UseHere, use-here}
 use Rattle.reservation.proofs.cells.release.Statement.{statement}
 use Rattle.reservation.proofs.cells.release.Tie as tie
 

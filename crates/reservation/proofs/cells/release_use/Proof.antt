@@ -5,7 +5,7 @@ use Prim.Native.Nat.{ℕ, _-_, _≤_}
 use native.Mathlib.Numerals.{add-one}
 use native.Mathlib.Omega.{arith}
 use Rattle.reservation.specs.Rows.{overUse, lessBit}
-use Rattle.reservation.proofs.Over.{length-over, over-turn}
+use Rattle.reservation.proofs.RowUpdates.{length-over, over-turn}
 use Rattle.reservation.proofs.cells.release_use.Statement.{statement}
 use Rattle.reservation.proofs.cells.release_use.Tie as tie
 

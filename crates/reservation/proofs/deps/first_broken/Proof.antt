@@ -6,8 +6,8 @@ use native.Mathlib.Omega.{arith}
 use borrow.Author.Count.{below-more}
 use Rattle.model.specs.Loop.{depAt}
 use Rattle.model.specs.File.{loopOf}
-use Rattle.model.specs.Legality.{breaks}
-use Rattle.reservation.specs.Seats.{seats, firstBreach}
+use Rattle.model.specs.Legality.{breaks, firstBreach}
+use Rattle.reservation.specs.Seats.{seats}
 use Rattle.model.proofs.Firsts.{row-not}
 use Rattle.model.proofs.Lists.{row-first}
 use Rattle.reservation.proofs.deps.first_broken.Statement.{statement}

@@ -12,7 +12,7 @@ use Rattle.model.specs.Loop.{Use, Op, noUse, opAt, useAt, allUses, OpOk}
 use Rattle.model.specs.File.{loopOf}
 use Rattle.model.proofs.File.{accepted-ok}
 use Rattle.model.proofs.Loop.{use-within, all-few}
-use Rattle.reservation.proofs.Meeting.{own-use, usePass, pass-away, pass-over, pass-on, pass-covers, none-covers}
+use Rattle.reservation.proofs.Overlaps.{own-use, usePass, pass-away, pass-over, pass-on, pass-covers, none-covers}
 use Rattle.reservation.proofs.pairs.covers.Statement.{statement}
 use Rattle.reservation.proofs.pairs.covers.Tie as tie
 

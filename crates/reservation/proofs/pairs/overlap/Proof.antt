@@ -10,8 +10,8 @@ use Rattle.model.specs.Loop.{Op, noUse, opAt, useAt, allUses, OpOk}
 use Rattle.model.specs.File.{loopOf}
 use Rattle.model.proofs.File.{accepted-ok}
 use Rattle.model.proofs.Loop.{use-within, all-few}
-use Rattle.reservation.specs.Meeting.{useMeets}
-use Rattle.reservation.proofs.Meeting.{own-use, uses-some, uses-none}
+use Rattle.reservation.specs.Overlaps.{useMeets}
+use Rattle.reservation.proofs.Overlaps.{own-use, uses-some, uses-none}
 use Rattle.reservation.proofs.pairs.overlap.Statement.{statement}
 use Rattle.reservation.proofs.pairs.overlap.Tie as tie
 

@@ -10,7 +10,7 @@ use Rattle.model.specs.Loop.{Use, Op, noUse, opAt, useAt}
 use Rattle.model.specs.File.{loopOf}
 use Rattle.model.specs.Legality.{selfConflict}
 use Rattle.model.proofs.Lists.{some-any, at-any}
-use Rattle.reservation.proofs.Turns.{UseHere, use-here}
+use Rattle.reservation.proofs.UseNumbers.{UseHere, use-here}
 use Rattle.reservation.proofs.pairs.too_long.Statement.{statement}
 use Rattle.reservation.proofs.pairs.too_long.Tie as tie
 

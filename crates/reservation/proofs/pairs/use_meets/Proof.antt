@@ -11,8 +11,8 @@ use Rattle.model.specs.Loop.{Use, noUse, opAt, allUses}
 use Rattle.model.specs.File.{loopOf}
 use Rattle.model.proofs.File.{accepted-ok}
 use Rattle.model.proofs.Loop.{all-ok}
-use Rattle.reservation.specs.Meeting.{coversCell}
-use Rattle.reservation.proofs.Meeting.{meets-some, meets-none}
+use Rattle.reservation.specs.Overlaps.{coversCell}
+use Rattle.reservation.proofs.Overlaps.{meets-some, meets-none}
 use Rattle.reservation.proofs.pairs.use_meets.Statement.{statement}
 use Rattle.reservation.proofs.pairs.use_meets.Tie as tie
 

@@ -13,7 +13,7 @@ use Rattle.model.specs.Loop.{Use, opAt}
 use Rattle.model.specs.File.{loopOf}
 use Rattle.model.proofs.File.{accepted-ok}
 use Rattle.reservation.specs.Place.{takenIn, cyclesOf, rowAt}
-use Rattle.reservation.proofs.Taken.{cycles-most, cycle-free, place-free, place-taken}
+use Rattle.reservation.proofs.TakenCells.{cycles-most, cycle-free, place-free, place-taken}
 use Rattle.reservation.proofs.test.conflict.Statement.{statement}
 use Rattle.reservation.proofs.test.conflict.Tie as tie
 

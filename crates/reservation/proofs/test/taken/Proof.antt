@@ -14,7 +14,7 @@ use Rattle.model.specs.Table.{digitOf}
 use Rattle.model.proofs.File.{accepted-ok}
 use Rattle.reservation.specs.Place.{takenBy}
 use Rattle.model.proofs.Loop.{all-ok}
-use Rattle.reservation.proofs.Taken.{use-over}
+use Rattle.reservation.proofs.TakenCells.{use-over}
 use Rattle.reservation.proofs.test.taken.Statement.{statement}
 use Rattle.reservation.proofs.test.taken.Tie as tie
 

@@ -17,8 +17,8 @@ use Rattle.model.proofs.File.{accepted-ok}
 use Rattle.model.proofs.Firsts.{first-at, first-not}
 use Rattle.reservation.specs.Place.{takenBy, takenIn, cyclesOf, cycleIs}
 use Rattle.reservation.specs.declared.test.Cycle.the-variants as cycle
-use Rattle.reservation.proofs.Taken.{cycles-more}
-use Rattle.reservation.proofs.Turns.{UseHere, use-here}
+use Rattle.reservation.proofs.TakenCells.{cycles-more}
+use Rattle.reservation.proofs.UseNumbers.{UseHere, use-here}
 use Rattle.reservation.proofs.test.taken_in.Statement.{statement}
 use Rattle.reservation.proofs.test.taken_in.Tie as tie
 

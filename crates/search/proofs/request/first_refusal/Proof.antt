@@ -1,7 +1,7 @@
 -- `request::first_refusal` meets its contract: one law of `Requests` for each return. Assumes nothing.
 use mathlib.Core.Path.{_≡_}
 use mathlib.Core.Bool.{false}
-use Rattle.model.specs.Search.{outside}
+use Rattle.model.specs.Refusals.{outside}
 use Rattle.model.proofs.Checks.{too-small, too-large, in-range}
 use Rattle.search.proofs.Requests.{cap-refused, horizon-refused, budget-refused, list-refused, rows-refused, none-refused}
 use Rattle.search.proofs.request.first_refusal.Statement.{statement}

@@ -1,15 +1,15 @@
--- `checks::openable` meets its contract: one law of `Refusing` for each return. Assumes nothing.
+-- `checks::openable` meets its contract: one law of `Refusals` for each return. Assumes nothing.
 use mathlib.Core.Path.{_≡_, sym, ap, _∙_}
 use mathlib.Core.Bool.{false}
 use native.Mathlib.Omega.{arith}
 use Rattle.model.specs.File.{Accepted}
-use Rattle.model.specs.Search.{outside}
+use Rattle.model.specs.Refusals.{outside}
 use Rattle.model.proofs.Checks.{too-small, too-large, in-range}
 use Rattle.loop_file.specs.Read.{readingOf}
 use Rattle.loop_file.proofs.Answers.{read-accepted, read-refused}
 use Rattle.board.specs.Checks.{refusalOf}
 use Rattle.session.specs.Checks.{asUnread}
-use Rattle.board.proofs.Refusing.{open-early, open-interval, open-horizon, open-rows, open-fine}
+use Rattle.board.proofs.Refusals.{open-early, open-interval, open-horizon, open-rows, open-fine}
 use Rattle.session.proofs.checks.openable.Statement.{statement}
 use Rattle.session.proofs.checks.openable.Tie as tie
 

@@ -11,8 +11,8 @@ use Rattle.model.specs.File.{loopOf}
 use Rattle.model.specs.Legality.{placed, holds, brokenAt, broken}
 use Rattle.model.proofs.Lists.{below-next, row-first, row-any, first-none}
 use Rattle.model.proofs.File.{accepted-ok}
-use Rattle.model.proofs.Placed.{placed-take}
-use Rattle.verifier.specs.Walk.{firstBroken}
+use Rattle.model.proofs.StartLists.{placed-take}
+use Rattle.model.specs.Verifier.{firstBroken}
 use Rattle.verifier.proofs.walk.first_broken.Statement.{statement}
 use Rattle.verifier.proofs.walk.first_broken.Tie as tie
 

@@ -13,7 +13,7 @@ use Rattle.model.specs.File.{loopOf}
 use Rattle.model.proofs.File.{accepted-ok}
 use Rattle.model.proofs.Loop.{use-within, all-few}
 use Rattle.verifier.specs.Answer.{pairOf}
-use Rattle.reservation.proofs.Meeting.{own-use}
+use Rattle.reservation.proofs.Overlaps.{own-use}
 use Rattle.verifier.proofs.Pairs.{clash, hit, hit-read, hits-none, walk-found, walk-none}
 use Rattle.verifier.proofs.walk.first_pair.Statement.{statement}
 use Rattle.verifier.proofs.walk.first_pair.Tie as tie

@@ -14,15 +14,15 @@ use lib.Dec.{eqb, ltb}
 use lib.ListN.{length, getD, set}
 use lib.Pow.{pow-pos, pow-add}
 use lib.Seq.{getD-set-same, getD-set-other, ext-getD}
-use Rattle.model.specs.Lists.{upFrom, any, sumOf}
+use Rattle.model.specs.Lists.{upFrom, anyOf, sumOf}
 use Rattle.model.specs.Refusals.{firstRefusal, answered}
 use Rattle.model.specs.Loop.{Dep, Loop, noDep, size, opAt, depAt}
 use Rattle.model.specs.File.{loopOf, Accepted}
-use Rattle.model.specs.Legality.{Placing, conflict, conflictAt, selfConflict, brokenAt, placeAt, touches, breaks, conflictsWith, fitsAt}
-use Rattle.model.specs.Session.{Starts, force, displaced, isPlaced, firstBroken, nowhere, checks, inTheWay, without, maskOf}
+use Rattle.model.specs.Legality.{Placing, conflict, conflictAt, selfConflict, brokenAt, placeAt, touches, breaks, firstBreach, conflictsWith, fitsAt}
+use Rattle.model.specs.Session.{Starts, force, displaced, isPlaced, nowhere, checks, inTheWay, without, maskOf}
 use Rattle.model.proofs.Lists.{or-false-left, or-false-right, length-tabulate, getD-tabulate, none-first, any-row, any-places}
 use Rattle.model.proofs.Sums.{sum-next}
-use Rattle.model.proofs.Checks.{passes-head, passes-tail, passes-left, passes-right}
+use Rattle.model.proofs.Checks.{passes-head, passes-tail, passes-left, passes-right, not-found}
 use Rattle.model.proofs.Legality.{parts-fits, place-same, place-other}
 use Rattle.reservation.specs.Seats.{seatOf, seats}
 use Rattle.reservation.proofs.Bits.{or-shl}
@@ -32,9 +32,9 @@ use Rattle.board.specs.Moves.{hitBy, HitIs, HitsAre, way, Cleared, Did}
 use Rattle.board.specs.declared.Reply.the-variants as reply
 use Rattle.board.proofs.Readings.{starts-at, starts-length, starts-set, seats-are}
 use Rattle.board.proofs.Boards.{few-operations, board-far, sane-near, Fewer, part-sane, put-board, lift-board}
-use Rattle.board.proofs.Marking.{hit-not, breaks-same, hit-same}
-use Rattle.board.proofs.Refusing.{common, known-inside, known-near, known-open}
-use Rattle.board.proofs.Doing.{blank-is, no-breach, did-done}
+use Rattle.board.proofs.Hits.{hit-not, breaks-same, hit-same}
+use Rattle.board.proofs.Refusals.{common, known-inside, known-near, known-open}
+use Rattle.board.proofs.Effects.{blank-is, did-done}
 
 -- ---- in the way
 
@@ -47,7 +47,7 @@ module _ (f : List ℕ) {ii h : ℕ} {xs : List ℕ} (a : Accepted f) (s : Sane 
   way-is : (k : ℕ) → inTheWay (setupAs f ii k) (startsOf (size (loopOf f)) xs) o t p ≡ inWay (loopOf f) ii (seats xs) o t p
   unfolding inTheWay hitBy
   way-is k =
-      ap (λ (g : Placing). isPlaced (g p) && (conflictsWith (loopOf f) ii g o t p || any (λ d. touches p d && breaks ii g o t d) (loopOf f .deps)))
+      ap (λ (g : Placing). isPlaced (g p) && (conflictsWith (loopOf f) ii g o t p || anyOf (λ d. touches p d && breaks ii g o t d) (loopOf f .deps)))
       (seats-are (size (loopOf f)) xs (omega (arith, few-operations f a, s .whole)) (s .blank))
       ∙ ap (λ (b : Bool). isPlaced (seats xs p) && (conflictsWith (loopOf f) ii (seats xs) o t p || b))
       (any-places (λ d. touches p d && breaks ii (seats xs) o t d) (loopOf f .deps) noDep)
@@ -369,10 +369,10 @@ module _ {f : List ℕ} {ii h : ℕ} {xs rows : List ℕ} (b : Board f ii h xs r
 
   -- it breaks no dependence with itself
   force-kept : (e : ℕ) → e < length (loopOf f .deps) → breaks ii nowhere o t (depAt (loopOf f) e) ≡ false
-  unfolding firstBroken
+  unfolding firstBreach
   force-kept e m =
       any-row (λ e. breaks ii nowhere o t (depAt (loopOf f) e)) 0 (length (loopOf f .deps)) e
-      (none-first _ _ (no-breach _ (passes-head _ _ (passes-right (common f h o t xs) _ fine)))) (omega arith) (omega arith)
+      (none-first _ _ (not-found 16 _ (passes-head _ _ (passes-right (common f h o t xs) _ fine)))) (omega arith) (omega arith)
 
   -- and does not conflict with itself
   force-self : selfConflict ii (opAt (loopOf f) o) ≡ false

@@ -3,8 +3,8 @@ use mathlib.Core.Path.{_≡_, refl, sym, ap, ap₂, _∙_}
 use mathlib.Core.List.{List, [], _∷_, _++_, map}
 use mathlib.Core.Logic.{_⊎_, inl, inr}
 use mathlib.Core.Option.{Option, none, some}
-use Prim.Native.Nat.{ℕ, zero, suc, _+_, _-_, _≤_, _<_}
-use native.Mathlib.Nat.{not-suc-le-zero, le-of-suc-le-suc, eq-or-lt-of-le}
+use Prim.Native.Nat.{ℕ, _+_, _-_, _≤_, _<_}
+use native.Mathlib.Nat.{eq-or-lt-of-le}
 use native.Mathlib.Numerals.{add-one}
 use native.Mathlib.Omega.{arith}
 use borrow.Author.Tests.{eq-eqb, ne-eqb, le-leb, lt-ltb}
@@ -17,7 +17,7 @@ use Rattle.model.specs.Legality.{Placing}
 use Rattle.model.specs.Table.{cellsOf, tableAt}
 use Rattle.model.specs.Session.{Setup, Starts, State, Call, checkpoint, release, rollback, Reply, placedIn, checks, effect, stepAs, step}
 use Rattle.model.specs.Session as model
-use Rattle.model.proofs.Lists.{map-append}
+use Rattle.model.proofs.Lists.{map-append, map-take, getD-map-lt}
 use Rattle.model.proofs.Firsts.{getD-within}
 use Rattle.model.proofs.Table.{table-take}
 use Rattle.model.proofs.Session.{step-refused, step-done, checkpoint-done, rollback-done}
@@ -25,27 +25,13 @@ use Rattle.reservation.specs.Seats.{seats}
 use Rattle.board.specs.Board.{startsOf, Sane, Board}
 use Rattle.board.specs.Moves.{Did, Restored}
 use Rattle.session.specs.View.{fileOf, setupOf, stateOf, blank, Valid, Stepped}
-use Rattle.session.specs.declared.Starts as starts
+use Rattle.session.specs.declared.OpStarts as starts
 use Rattle.session.specs.declared.Session.{Session}
 use Rattle.board.specs.declared.Reply as declared
 use Rattle.board.specs.declared.Reply.the-variants as reply
 use Rattle.board.proofs.Readings.{seats-are}
 use Rattle.board.proofs.Boards.{few-operations}
-use Rattle.board.proofs.Doing.{done-kept}
-
--- ---- lists
-
--- a map over a part
-map-take : {A B : Type 0} (f : A → B) (n : ℕ) (l : List A) → map f (take n l) ≡ take n (map f l)
-map-take f zero l = refl
-map-take f (suc n) [] = refl
-map-take f (suc n) (x ∷ l) = ap (λ t. f x ∷ t) (map-take f n l)
-
--- a place of a map, whatever stands past the ends
-getD-map-lt : {A B : Type 0} (f : A → B) (l : List A) (n : ℕ) (d : A) (e : B) → n < length l → getD (map f l) n e ≡ f (getD l n d)
-getD-map-lt f [] n d e h = absurd (not-suc-le-zero h)
-getD-map-lt f (x ∷ l) zero d e h = refl
-getD-map-lt f (x ∷ l) (suc n) d e h = getD-map-lt f l n d e (le-of-suc-le-suc h)
+use Rattle.board.proofs.Effects.{done-kept}
 
 -- ---- rows
 
@@ -151,7 +137,7 @@ module _ (s : Session) (rows : List ℕ) (v : Valid s rows) where
         same = λ x w. done-kept _ x w;
       }
     where
-      read : starts.Starts → Starts
+      read : starts.OpStarts → Starts
       read x = startsOf (size (loopOf (fileOf s))) (x .at)
 
       copies : map read (take (s .marks + 1) (set (s .saved) (s .marks) (s .starts))) ≡ map read (take (s .marks) (s .saved)) ++ (read (s .starts) ∷ [])
@@ -213,9 +199,9 @@ module _ (s : Session) (rows : List ℕ) (v : Valid s rows) where
   unfolding firstRefusal
   not-open m n h = stepped-refused (rollback m) 19 0 (rw (open-count, ne-eqb m 0 n, lt-ltb (s .marks) m h))
 
-  module _ (m : ℕ) (some : m ≡ 0 → ⊥) (there : m ≤ s .marks) (d : starts.Starts) where
+  module _ (m : ℕ) (some : m ≡ 0 → ⊥) (there : m ≤ s .marks) (d : starts.OpStarts) where
     -- the starts of the checkpoint
-    abbrev wanted : starts.Starts
+    abbrev wanted : starts.OpStarts
     wanted = getD (s .saved) (m - 1) d
 
     -- they are sane, whatever stands past the end
@@ -252,4 +238,4 @@ module _ (s : Session) (rows : List ℕ) (v : Valid s rows) where
         there-is : getD (stateOf s .checkpoints) (m - 1) [] ≡ startsOf (size (loopOf (fileOf s))) (wanted .at)
         there-is =
             getD-map-lt _ (take (s .marks) (s .saved)) (m - 1) d [] (omega (arith, length-take-le (s .marks) (s .saved) (omega (arith, v .few, v .saved-all))))
-            ∙ ap (λ (x : starts.Starts). startsOf (size (loopOf (fileOf s))) (x .at)) (getD-take (s .marks) (s .saved) (m - 1) d (omega arith))
+            ∙ ap (λ (x : starts.OpStarts). startsOf (size (loopOf (fileOf s))) (x .at)) (getD-take (s .marks) (s .saved) (m - 1) d (omega arith))

@@ -9,16 +9,15 @@ use lib.Dec.{leb}
 use lib.ListN.{length, getD, take}
 use borrow.Author.Tests.{lt-ltb, le-ltb, lt-leb, leb-false}
 use Rattle.model.specs.Lists.{upFrom, first}
-use Rattle.model.specs.Refusals.{Refusal, firstRefusal, answered, refused, settled}
+use Rattle.model.specs.Refusals.{Refusal, ifFound, outside, firstRefusal, answered, refused, settled}
 use Rattle.model.specs.Loop.{Loop, size}
 use Rattle.model.specs.File.{fileChecks, loopOf, Accepted}
-use Rattle.model.specs.Search.{outside}
-use Rattle.model.specs.Verifier.{Verdict, lateAt, proposalChecks, judge, verdict, verifyFile}
+use Rattle.model.specs.Verifier.{Verdict, proposalChecks, judge, firstBroken, firstPair, verdict, verifyFile}
 use Rattle.model.proofs.Lists.{any-row, row-any, first-none, none-first}
 use Rattle.model.proofs.Checks.{refusal-append, refusal-early}
 use Rattle.model.proofs.Firsts.{row-within}
 use Rattle.loop_file.specs.Read.{refusal}
-use Rattle.verifier.specs.Walk.{firstLate, firstBroken, firstPair, Proposal}
+use Rattle.verifier.specs.Walk.{firstLate, oneEach, Proposal}
 
 -- ---- the checks of a proposal
 
@@ -45,7 +44,7 @@ module _ (l : Loop) (ii : ℕ) (xs : List ℕ) where
 
   -- and then the starts
   starts-come : 1 ≤ ii → ii ≤ 4096 → size l ≤ length xs → (o : Option ℕ) → first lateStart (upFrom 0 (size l)) ≡ o
-      → firstRefusal (proposalChecks l ii xs) ≡ firstRefusal (lateAt o ∷ [])
+      → firstRefusal (proposalChecks l ii xs) ≡ firstRefusal (ifFound 15 o ∷ [])
   unfolding proposalChecks firstRefusal
   starts-come a b h o e = rw (interval-passes a b, le-ltb (length xs) (size l) h, e)
 
@@ -76,7 +75,7 @@ module _ (l : Loop) (ii : ℕ) (xs : List ℕ) where
 
 module _ (f : List ℕ) (ii : ℕ) (xs : List ℕ) where
   abbrev judged : Verdict
-  judged = verdict (loopOf f) ii (take (size (loopOf f)) xs)
+  judged = verdict (loopOf f) ii (oneEach (loopOf f) xs)
 
   -- the reader's refusal comes first
   pub file-refused : (r : Refusal) → firstRefusal (fileChecks f) ≡ some r → verifyFile f ii xs ≡ refused r
@@ -89,6 +88,7 @@ module _ (f : List ℕ) (ii : ℕ) (xs : List ℕ) where
   proposal-refused r a e = ap (λ (o : Option Refusal). settled o judged) (refusal-append (fileChecks f) (proposalChecks (loopOf f) ii xs) a ∙ e)
 
   -- then the verdict, by the two walks
-  pub by-walks : Accepted f → Proposal (loopOf f) ii xs → verifyFile f ii xs ≡ answered (judge (firstBroken (loopOf f) ii xs) (firstPair (loopOf f) ii xs))
-  unfolding verifyFile verdict firstBroken firstPair
+  pub by-walks : Accepted f → Proposal (loopOf f) ii xs
+      → verifyFile f ii xs ≡ answered (judge (firstBroken (loopOf f) ii (oneEach (loopOf f) xs)) (firstPair (loopOf f) ii (oneEach (loopOf f) xs)))
+  unfolding verifyFile verdict
   by-walks a p = ap (λ (o : Option Refusal). settled o judged) (refusal-append (fileChecks f) (proposalChecks (loopOf f) ii xs) a ∙ passes (loopOf f) ii xs p)

@@ -8,7 +8,7 @@ use native.Mathlib.Omega.{arith}
 use lib.Dec.{eqb, ltb}
 use lib.ListN.{length, getD}
 use borrow.Author.Tests.{eq-eqb, ne-eqb, eqb-true, lt-ltb, ltb-true, le-ltb}
-use Rattle.model.specs.Lists.{upFrom, any}
+use Rattle.model.specs.Lists.{upFrom, anyOf}
 use Rattle.model.specs.Loop.{Use, Op, Loop, noUse, size, opAt, useAt, allUses, firstUseOf, OpOk}
 use Rattle.model.specs.Legality.{Cell, sameCell, footprint, share, conflict}
 use Rattle.model.specs.Table.{countOf}
@@ -16,24 +16,24 @@ use Rattle.model.proofs.Lists.{and-left, and-right, same-true, same-test, at-an
 use Rattle.model.proofs.Modular.{cycleOf, cycle-row, cycle-first}
 use Rattle.model.proofs.Loop.{use-among}
 use Rattle.model.proofs.Conflicts.{Hit, cell-hit, hit-cell, apart-cells, cells-apart}
-use Rattle.reservation.specs.Meeting.{coversCell, useMeets}
+use Rattle.reservation.specs.Overlaps.{coversCell, useMeets}
 
 -- ---- the cells of one operation
 
 -- a cell is one of these exactly where it counts
-cell-any : (s r : ℕ) (cells : List Cell) → 1 ≤ countOf s r cells → any (sameCell (record { slot = s; row = r })) cells ≡ true
-cell-any s r cells h = pick (any (sameCell (record { slot = s; row = r })) cells) refl
+cell-any : (s r : ℕ) (cells : List Cell) → 1 ≤ countOf s r cells → anyOf (sameCell (record { slot = s; row = r })) cells ≡ true
+cell-any s r cells h = pick (anyOf (sameCell (record { slot = s; row = r })) cells) refl
   where
-    pick : (b : Bool) → any (sameCell (record { slot = s; row = r })) cells ≡ b → b ≡ true
+    pick : (b : Bool) → anyOf (sameCell (record { slot = s; row = r })) cells ≡ b → b ≡ true
     pick true e = refl
     pick false e = absurd (omega (arith, count-none (sameCell (record { slot = s; row = r })) cells e))
 
-any-cell : (s r : ℕ) (cells : List Cell) → any (sameCell (record { slot = s; row = r })) cells ≡ true → 1 ≤ countOf s r cells
+any-cell : (s r : ℕ) (cells : List Cell) → anyOf (sameCell (record { slot = s; row = r })) cells ≡ true → 1 ≤ countOf s r cells
 any-cell s r cells e = pick (ℕ-discrete (countOf s r cells) 0)
   where
     pick : Dec (countOf s r cells ≡ 0) → 1 ≤ countOf s r cells
     pick (no n) = omega arith
-    pick (yes z) = let f : any (sameCell (record { slot = s; row = r })) cells ≡ false = none-count (sameCell (record { slot = s; row = r })) cells z in let q : _≡_ {A = ℕ} 0 1 = cc in absurd (omega arith)
+    pick (yes z) = let f : anyOf (sameCell (record { slot = s; row = r })) cells ≡ false = none-count (sameCell (record { slot = s; row = r })) cells z in let q : _≡_ {A = ℕ} 0 1 = cc in absurd (omega arith)
 
 -- whether a use of an operation started at s covers the slot in the row, by one division
 abbrev pub usePass : ℕ → ℕ → ℕ → ℕ → Use → Bool
@@ -63,10 +63,10 @@ module _ (ii : ℕ) (pos : 1 ≤ ii) (p : Op) (ok : OpOk p) (s : ℕ) where
       rw (eq-eqb (u .slot) slot (h .slot)) (lt-ltb (cycleOf ii (s + u .offset) row) (u .duration) (omega (arith, h .going, h .begun)))
 
   -- an operation covers the slot in the row exactly where one of its uses does
-  pub covers-uses : (slot row : ℕ) → row < ii → coversCell ii p s slot row ≡ any (usePass ii s slot row) (p .uses)
+  pub covers-uses : (slot row : ℕ) → row < ii → coversCell ii p s slot row ≡ anyOf (usePass ii s slot row) (p .uses)
   unfolding coversCell
   covers-uses slot row l =
-      same-true (any (sameCell (record { slot = slot; row = row })) (footprint ii p s)) (any (usePass ii s slot row) (p .uses))
+      same-true (anyOf (sameCell (record { slot = slot; row = row })) (footprint ii p s)) (anyOf (usePass ii s slot row) (p .uses))
       (λ e. let w = cell-hit ii p s slot row (any-cell slot row (footprint ii p s) e) in
       some-any (usePass ii s slot row) (p .uses) noUse (w .1) (w .2 .inside) (hit-test slot row (w .0) (w .1) (w .2)))
       (λ e. let w = any-some (usePass ii s slot row) (p .uses) noUse e in
@@ -107,17 +107,17 @@ own-use l o first j h e m = ap (λ (n : ℕ). getD (allUses l) (n + j) noUse) e 
 
 module _ (ii : ℕ) (pos : 1 ≤ ii) (p q : Op) (ok : OpOk p) (s t : ℕ) where
   -- two operations conflict exactly where a cycle of a use of the first meets the second
-  pub two-uses : conflict ii p s q t ≡ any (λ j. useMeets ii q s t (useAt p j)) (upFrom 0 (length (p .uses)))
+  pub two-uses : conflict ii p s q t ≡ anyOf (λ j. useMeets ii q s t (useAt p j)) (upFrom 0 (length (p .uses)))
   unfolding conflict coversCell useMeets
-  two-uses = same-test (share (footprint ii p s) (footprint ii q t)) (any uses-test (upFrom 0 (length (p .uses)))) away toward
+  two-uses = same-test (share (footprint ii p s) (footprint ii q t)) (anyOf uses-test (upFrom 0 (length (p .uses)))) away toward
     where
       cycle-test : ℕ → ℕ → Bool
       cycle-test j k = coversCell ii q t (useAt p j .slot) ((s + useAt p j .offset + k) % ii)
 
       uses-test : ℕ → Bool
-      uses-test j = any (cycle-test j) (upFrom 0 (useAt p j .duration))
+      uses-test j = anyOf (cycle-test j) (upFrom 0 (useAt p j .duration))
 
-      away : share (footprint ii p s) (footprint ii q t) ≡ false → any uses-test (upFrom 0 (length (p .uses))) ≡ false
+      away : share (footprint ii p s) (footprint ii q t) ≡ false → anyOf uses-test (upFrom 0 (length (p .uses))) ≡ false
       away e = row-any uses-test 0 (length (p .uses)) (λ j x y. row-any (cycle-test j) 0 (useAt p j .duration) (λ k v w. one j k (omega arith) (omega arith)))
         where
           one : (j k : ℕ) → j < length (p .uses) → k < useAt p j .duration → cycle-test j k ≡ false
@@ -128,14 +128,14 @@ module _ (ii : ℕ) (pos : 1 ≤ ii) (p q : Op) (ok : OpOk p) (s t : ℕ) where
               let h : Hit ii p s slot row (useAt p j .offset + k) j = record { inside = l; slot = refl; begun = omega arith; going = omega arith; row = ap (λ (x : ℕ). x % ii) g } in
               none-count (sameCell (record { slot = slot; row = row })) (footprint ii q t) (apart-cells (footprint ii p s) (footprint ii q t) e slot row (hit-cell ii p s slot row (useAt p j .offset + k) j ok h))
 
-      toward : any uses-test (upFrom 0 (length (p .uses))) ≡ false → share (footprint ii p s) (footprint ii q t) ≡ false
+      toward : anyOf uses-test (upFrom 0 (length (p .uses))) ≡ false → share (footprint ii p s) (footprint ii q t) ≡ false
       toward e = cells-apart (footprint ii p s) (footprint ii q t) (λ slot row h. one slot row (cell-hit ii p s slot row h))
         where
           one : (slot row : ℕ) → ((k : ℕ) × (j : ℕ) × Hit ii p s slot row k j) → countOf slot row (footprint ii q t) ≡ 0
           one slot row (k, j, h) =
               let d : ℕ = k - useAt p j .offset in
               let g : s + useAt p j .offset + d ≡ s + k = omega (arith, h .begun) in
-              let u : any (cycle-test j) (upFrom 0 (useAt p j .duration)) ≡ false = any-row uses-test 0 (length (p .uses)) j e (omega arith) (omega (arith, h .inside)) in
+              let u : anyOf (cycle-test j) (upFrom 0 (useAt p j .duration)) ≡ false = any-row uses-test 0 (length (p .uses)) j e (omega arith) (omega (arith, h .inside)) in
               let f : cycle-test j d ≡ false = any-row (cycle-test j) 0 (useAt p j .duration) d u (omega arith) (omega (arith, h .going, h .begun)) in
               ap (λ (x : ℕ). countOf x row (footprint ii q t)) (sym (h .slot))
               ∙ ap (λ (x : ℕ). countOf (useAt p j .slot) x (footprint ii q t)) (sym (ap (λ (x : ℕ). x % ii) g ∙ h .row))

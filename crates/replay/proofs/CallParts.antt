@@ -1,4 +1,4 @@
--- Calls by number on the parts of a session: which call a number is, and from each law of `Stepping` to `Turned`. Assumes nothing.
+-- Calls by number on the parts of a session: which call a number is, and from each law of `Steps` to `StepMade`. Assumes nothing.
 use mathlib.Core.Path.{_≡_, refl, sym, ap, _∙_, subst}
 use mathlib.Core.Bool.{Bool, cond}
 use mathlib.Core.List.{List}
@@ -9,11 +9,11 @@ use lib.ListN.{getD, set, take}
 use Rattle.model.specs.Session as model
 use Rattle.board.specs.Moves.{Restored}
 use Rattle.session.specs.View.{blank, Valid, Stepped}
-use Rattle.replay.specs.Parts.{callOf, joined, WantedIs, Turned}
-use Rattle.session.specs.declared.Starts.{Starts}
+use Rattle.replay.specs.Parts.{callOf, joined, WantedIs, StepMade}
+use Rattle.session.specs.declared.OpStarts.{OpStarts}
 use Rattle.board.specs.declared.Reply.{Reply}
 use Rattle.board.specs.declared.Reply.the-variants as reply
-use Rattle.session.proofs.Stepping.{stepped-checkpoint, stepped-release, stepped-rollback}
+use Rattle.session.proofs.Steps.{stepped-checkpoint, stepped-release, stepped-rollback}
 
 -- ---- the call of each kind
 
@@ -51,24 +51,24 @@ module _ (k a b : ℕ) where
 module _ {f : List ℕ} {n ii h marks k a b : ℕ} {wanted xs rows : List ℕ} where
   -- the call c is made and sets none
   turned-plain : (c : model.Call) {xs′ rows′ : List ℕ} {marks′ : ℕ} {r : Reply} → callOf k a b ≡ c → marks′ ≤ marks
-      → ((v : List Starts) → Valid (joined f n ii h marks xs v) rows → WantedIs v a marks wanted → Stepped c (joined f n ii h marks xs v) rows (joined f n ii h marks′ xs′ v) rows′ r)
-      → Turned f n ii h marks k a b wanted xs rows xs′ rows′ marks′ r
+      → ((v : List OpStarts) → Valid (joined f n ii h marks xs v) rows → WantedIs v a marks wanted → Stepped c (joined f n ii h marks xs v) rows (joined f n ii h marks′ xs′ v) rows′ r)
+      → StepMade f n ii h marks k a b wanted xs rows xs′ rows′ marks′ r
   turned-plain c {marks′ = marks′} e l t = record { steps = λ v ok w. rw (e, le-ltb marks marks′ l) (t v ok w) }
 
   -- nothing but starts and rows is changed
   pub turned-did : (c : model.Call) {xs′ rows′ : List ℕ} {r : Reply} → callOf k a b ≡ c
-      → ((v : List Starts) → Valid (joined f n ii h marks xs v) rows → Stepped c (joined f n ii h marks xs v) rows (joined f n ii h marks xs′ v) rows′ r)
-      → Turned f n ii h marks k a b wanted xs rows xs′ rows′ marks r
+      → ((v : List OpStarts) → Valid (joined f n ii h marks xs v) rows → Stepped c (joined f n ii h marks xs v) rows (joined f n ii h marks xs′ v) rows′ r)
+      → StepMade f n ii h marks k a b wanted xs rows xs′ rows′ marks r
   turned-did c e t = turned-plain c e (omega arith) (λ v ok w. t v ok)
 
-  pub turned-checkpoint : callOf k a b ≡ model.checkpoint → marks < 16 → Turned f n ii h marks k a b wanted xs rows xs rows (marks + 1) (reply.Numbered (marks + 1))
+  pub turned-checkpoint : callOf k a b ≡ model.checkpoint → marks < 16 → StepMade f n ii h marks k a b wanted xs rows xs rows (marks + 1) (reply.Numbered (marks + 1))
   turned-checkpoint e l = record { steps = λ v ok w. rw (e, lt-ltb marks (marks + 1) (omega arith)) (stepped-checkpoint (joined f n ii h marks xs v) rows ok l) }
 
-  pub turned-release : callOf k a b ≡ model.release → (marks ≡ 0 → ⊥) → Turned f n ii h marks k a b wanted xs rows xs rows (marks - 1) reply.Done
+  pub turned-release : callOf k a b ≡ model.release → (marks ≡ 0 → ⊥) → StepMade f n ii h marks k a b wanted xs rows xs rows (marks - 1) reply.Done
   turned-release e l = turned-plain model.release e (omega arith) (λ v ok w. stepped-release (joined f n ii h marks xs v) rows ok l)
 
   pub turned-rollback : {xs′ rows′ : List ℕ} → callOf k a b ≡ model.rollback a → (a ≡ 0 → ⊥) → a ≤ marks → Restored (take n f) ii wanted rows xs′ rows′
-      → Turned f n ii h marks k a b wanted xs rows xs′ rows′ a reply.Done
+      → StepMade f n ii h marks k a b wanted xs rows xs′ rows′ a reply.Done
   turned-rollback {xs′} {rows′} e some there d = turned-plain (model.rollback a) e there (λ v ok w.
       let same : getD v (a - 1) blank .at ≡ wanted = w (omega arith) there in
       subst (λ (ys : List ℕ). Stepped (model.rollback a) (joined f n ii h marks xs v) rows (joined f n ii h a ys v) rows′ reply.Done) (same ∙ sym (d .starts-are))
@@ -76,14 +76,14 @@ module _ {f : List ℕ} {n ii h marks k a b : ℕ} {wanted xs rows : List ℕ} w
 
 -- ---- the session that a call leads to
 
-module _ {f : List ℕ} {n ii h marks k a b : ℕ} {wanted xs rows xs′ rows′ : List ℕ} {marks′ : ℕ} {r : Reply} (t : Turned f n ii h marks k a b wanted xs rows xs′ rows′ marks′ r)
-    (v : List Starts) (ok : Valid (joined f n ii h marks xs v) rows) (w : WantedIs v a marks wanted) where
+module _ {f : List ℕ} {n ii h marks k a b : ℕ} {wanted xs rows xs′ rows′ : List ℕ} {marks′ : ℕ} {r : Reply} (t : StepMade f n ii h marks k a b wanted xs rows xs′ rows′ marks′ r)
+    (v : List OpStarts) (ok : Valid (joined f n ii h marks xs v) rows) (w : WantedIs v a marks wanted) where
   -- a checkpoint was set, and the starts are kept as its copy
   pub turned-grown : marks < marks′ → Stepped (callOf k a b) (joined f n ii h marks xs v) rows (joined f n ii h marks′ xs′ (set v marks (record { at = xs′ }))) rows′ r
-  turned-grown l = subst (λ (u : List Starts). Stepped (callOf k a b) (joined f n ii h marks xs v) rows (joined f n ii h marks′ xs′ u) rows′ r)
+  turned-grown l = subst (λ (u : List OpStarts). Stepped (callOf k a b) (joined f n ii h marks xs v) rows (joined f n ii h marks′ xs′ u) rows′ r)
       (ap (λ (c : Bool). cond c (set v marks (record { at = xs′ })) v) (lt-ltb marks marks′ l)) (t .steps v ok w)
 
   -- none was
   pub turned-kept : marks′ ≤ marks → Stepped (callOf k a b) (joined f n ii h marks xs v) rows (joined f n ii h marks′ xs′ v) rows′ r
-  turned-kept l = subst (λ (u : List Starts). Stepped (callOf k a b) (joined f n ii h marks xs v) rows (joined f n ii h marks′ xs′ u) rows′ r)
+  turned-kept l = subst (λ (u : List OpStarts). Stepped (callOf k a b) (joined f n ii h marks xs v) rows (joined f n ii h marks′ xs′ u) rows′ r)
       (ap (λ (c : Bool). cond c (set v marks (record { at = xs′ })) v) (le-ltb marks marks′ l)) (t .steps v ok w)

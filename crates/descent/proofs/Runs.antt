@@ -10,11 +10,11 @@ use native.Mathlib.Omega.{arith}
 use lib.Dec.{eqb, eqb·suc-suc, eqb·zero-suc}
 use lib.ListN.{length, getD}
 use borrow.Author.Tests.{lt-ltb, le-ltb, eq-eqb, ne-eqb}
-use Rattle.model.specs.Lists.{upFrom, any, first, count, sumOf}
+use Rattle.model.specs.Lists.{upFrom, anyOf, first, countIf, sumOf}
 use Rattle.model.specs.Search.{words, whole, answer, reached, tried, probes}
-use Rattle.model.proofs.Lists.{any-map, at-any, first-later, first-none, none-first, count-append, count-flatMap, count-none, sum-none}
+use Rattle.model.proofs.Lists.{any-map, at-any, first-later, first-none, none-first, count-append, count-flatMap, count-none, sum-none, count-map}
 use Rattle.model.proofs.Firsts.{first-early, first-map}
-use Rattle.descent.proofs.Words.{count-map, words-over}
+use Rattle.descent.proofs.Words.{words-over}
 use Rattle.descent.specs.Tree.{under, tree, over, treeAnswer, treeProbes, overAnswer, overProbes, Res, broke, all, no-more, rest, resOf, run, runO}
 
 -- ---- the lists that begin with s, then the others
@@ -25,22 +25,22 @@ unfolding over upFrom flatMap
 over-cons h m s k = refl
 
 -- a test that every list fails
-none-passes : (p : List ℕ → Bool) (xs : List (List ℕ)) → ((q : List ℕ) → p q ≡ false) → any p xs ≡ false
+none-passes : (p : List ℕ → Bool) (xs : List (List ℕ)) → ((q : List ℕ) → p q ≡ false) → anyOf p xs ≡ false
 none-passes p xs f = at-any p xs [] (λ i l. f (getD xs i []))
 
 -- how many pass, number by number
-count-over : (p : List ℕ → Bool) (h m s k : ℕ) → count p (over h m s k) ≡ sumOf (λ t. count (λ q. p (t ∷ q)) (tree h m)) (upFrom s k)
+count-over : (p : List ℕ → Bool) (h m s k : ℕ) → countIf p (over h m s k) ≡ sumOf (λ t. countIf (λ q. p (t ∷ q)) (tree h m)) (upFrom s k)
 unfolding over
 count-over p h m s k =
     count-flatMap p (λ t. map (t ∷_) (tree h m)) (upFrom s k) ∙ ap (λ (f : ℕ → ℕ). sumOf f (upFrom s k)) (fun-ext (λ t. count-map p (t ∷_) (tree h m)))
 
 -- no word is empty: two tests that agree on the other lists let as many words pass
-count-words : (p r : List ℕ → Bool) (h m : ℕ) → ((x : ℕ) (q : List ℕ) → p (x ∷ q) ≡ r (x ∷ q)) → count p (words h m) ≡ count r (words h m)
-unfolding words count
+count-words : (p r : List ℕ → Bool) (h m : ℕ) → ((x : ℕ) (q : List ℕ) → p (x ∷ q) ≡ r (x ∷ q)) → countIf p (words h m) ≡ countIf r (words h m)
+unfolding words countIf
 count-words p r h zero e = refl
 count-words p r h (suc m) e =
     rw (words-over h m, count-over p h m 0 h, count-over r h m 0 h)
-    (ap (λ (f : ℕ → List ℕ → Bool). sumOf (λ t. count (f t) (tree h m)) (upFrom 0 h)) (fun-ext (λ x. fun-ext (e x))))
+    (ap (λ (f : ℕ → List ℕ → Bool). sumOf (λ t. countIf (f t) (tree h m)) (upFrom 0 h)) (fun-ext (λ x. fun-ext (e x))))
 
 -- ---- the answer, start by start
 
@@ -95,7 +95,7 @@ reached-early s (some []) q l = absurd l
 reached-early s (some (t ∷ a)) q l = rw (lt-ltb s t l)
 
 -- below a later start: none
-none-after : (L : List ℕ → Bool) (h m s k : ℕ) (a : List ℕ) → count (tried L (some (s ∷ a))) (over h m (suc s) k) ≡ 0
+none-after : (L : List ℕ → Bool) (h m s k : ℕ) (a : List ℕ) → countIf (tried L (some (s ∷ a))) (over h m (suc s) k) ≡ 0
 none-after L h m s k a =
     count-over (tried L (some (s ∷ a))) h m (suc s) k
     ∙ sum-none _ (suc s) k
@@ -106,8 +106,8 @@ none-after L h m s k a =
 
 -- those below s: s itself, and those of its own tree
 probes-below : (L : List ℕ → Bool) (h m s : ℕ) (o x : Option (List ℕ)) → L [] ≡ true → ((q : List ℕ) → reached o (s ∷ q) ≡ reached x q)
-    → count (λ q. tried L o (s ∷ q)) (tree h m) ≡ suc (count (tried (under L (s ∷ [])) x) (words h m))
-unfolding tree count
+    → countIf (λ q. tried L o (s ∷ q)) (tree h m) ≡ suc (countIf (tried (under L (s ∷ [])) x) (words h m))
+unfolding tree countIf
 probes-below L h m s o x e r =
     rw (e, r [], nil x)
     (omega (arith, count-words (λ q. tried L o (s ∷ q)) (tried (under L (s ∷ [])) x) h m (λ y q. rw (r (y ∷ q)))))
@@ -131,8 +131,8 @@ probes-step L h m s k e = rw (answer-step L h m s k, over-cons h m s k, count-ap
     later = overAnswer L h m (suc s) k
 
     pick : (x : Option (List ℕ))
-        → count (λ q. tried L (orLater s x later) (s ∷ q)) (tree h m) + count (tried L (orLater s x later)) (over h m (suc s) k)
-        ≡ suc (count (tried (under L (s ∷ [])) x) (words h m)) + orNone x (count (tried L later) (over h m (suc s) k))
+        → countIf (λ q. tried L (orLater s x later) (s ∷ q)) (tree h m) + countIf (tried L (orLater s x later)) (over h m (suc s) k)
+        ≡ suc (countIf (tried (under L (s ∷ [])) x) (words h m)) + orNone x (countIf (tried L later) (over h m (suc s) k))
     pick (some a) = rw (probes-below L h m s (some (s ∷ a)) (some a) e (reached-same s a), none-after L h m s k a)
     pick none = rw (probes-below L h m s later none e (λ q. reached-early s later q (late L h m (suc s) k)))
 
@@ -155,7 +155,7 @@ spend s b p p' none o (no n) (no k) =
 
 -- nothing left to choose: the list is whole
 pub run-leaf : (L : List ℕ → Bool) (h b : ℕ) → L [] ≡ true → run L h 0 b ≡ all [] b
-unfolding run treeAnswer treeProbes tree first words count
+unfolding run treeAnswer treeProbes tree first words countIf
 run-leaf L h b e = rw (e, le-ltb b 0 (omega arith)) (ap (all []) (omega arith))
 
 -- no list is legal: no probe is made
@@ -184,7 +184,7 @@ module _ (L : List ℕ → Bool) (h m : ℕ) where
 
   -- no starts
   pub run-end : (s b : ℕ) → runO L h m s 0 b ≡ no-more b
-  unfolding runO overAnswer overProbes over upFrom flatMap first count
+  unfolding runO overAnswer overProbes over upFrom flatMap first countIf
   run-end s b = rw (le-ltb b 0 (omega arith)) (ap no-more (omega arith))
 
   -- a tree is all its starts

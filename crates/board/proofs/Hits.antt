@@ -11,7 +11,7 @@ use borrow.Author.Tests.{eq-eqb, ne-eqb, eqb-true}
 use lib.Dec.{eqb}
 use lib.ListN.{length, getD, set, replicate, length-set, length-replicate}
 use lib.Seq.{getD-set-same, getD-set-other}
-use Rattle.model.specs.Lists.{upFrom, any}
+use Rattle.model.specs.Lists.{upFrom, anyOf}
 use Rattle.model.specs.Loop.{Dep, Loop, size, depAt}
 use Rattle.model.specs.Legality.{Placing, brokenAt, broken, placeAt, touches, breaks}
 use Rattle.model.proofs.Lists.{and-left, upFrom-split, getD-filled, any-append, any-row}
@@ -22,16 +22,16 @@ use Rattle.board.specs.Moves.{hitBy, HitsAre}
 -- ---- whether an operation is hit
 
 -- whether some number of a row passes, with one number more
-any-next : (p : ℕ → Bool) (n : ℕ) → any p (upFrom 0 (n + 1)) ≡ (any p (upFrom 0 n) || p n)
-unfolding any upFrom
+any-next : (p : ℕ → Bool) (n : ℕ) → anyOf p (upFrom 0 (n + 1)) ≡ (anyOf p (upFrom 0 n) || p n)
+unfolding anyOf upFrom
 any-next p n =
-    ap (any p) (upFrom-split 0 n 1) ∙ any-append p (upFrom 0 n) ((0 + n) ∷ [])
-    ∙ ap (λ (b : Bool). any p (upFrom 0 n) || b) (or-false (p (0 + n)) ∙ ap p (zero-add n))
+    ap (anyOf p) (upFrom-split 0 n 1) ∙ any-append p (upFrom 0 n) ((0 + n) ∷ [])
+    ∙ ap (λ (b : Bool). anyOf p (upFrom 0 n) || b) (or-false (p (0 + n)) ∙ ap p (zero-add n))
 
 module _ (l : Loop) (ii : ℕ) (g : Placing) (o t : ℕ) where
   -- by no dependence
   hit-none : (p : ℕ) → hitBy l ii g o t 0 p ≡ false
-  unfolding hitBy any upFrom
+  unfolding hitBy anyOf upFrom
   hit-none p = refl
 
   -- by one dependence more
@@ -155,4 +155,4 @@ module _ (ii : ℕ) (g k : Placing) (o t p : ℕ) (same : g p ≡ k p) (other : 
   -- and p is hit in both or in neither
   pub hit-same : (l : Loop) (n : ℕ) → hitBy l ii g o t n p ≡ hitBy l ii k o t n p
   unfolding hitBy
-  hit-same l n = ap (λ (q : ℕ → Bool). any q (upFrom 0 n)) (fun-ext (λ e. breaks-same (depAt l e)))
+  hit-same l n = ap (λ (q : ℕ → Bool). anyOf q (upFrom 0 n)) (fun-ext (λ e. breaks-same (depAt l e)))

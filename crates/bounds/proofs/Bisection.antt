@@ -18,7 +18,7 @@ use Rattle.bounds.specs.Walks.{Refuted, Decides, RecurrenceIs}
 use Rattle.bounds.proofs.Rounds.{MeetsAll, rounds-length, still-met}
 use Rattle.bounds.proofs.Trail.{last-round}
 use Rattle.bounds.proofs.Values.{rounds-below}
-use Rattle.bounds.proofs.Held.{holds-nats, metTo-meets, meets-metTo}
+use Rattle.bounds.proofs.Arrays.{holds-nats, metTo-meets, meets-metTo}
 use Rattle.bounds.proofs.Bound.{ever}
 
 -- nothing follows from a test that both succeeds and fails

@@ -2,31 +2,31 @@
 use mathlib.Core.Path.{_≡_, refl, sym, ap, _∙_, subst}
 use mathlib.Core.Bool.{true, false}
 use mathlib.Core.List.{List}
-use mathlib.Core.Option.{Option, none, some}
+use mathlib.Core.Option.{none, some}
 use Prim.Native.Nat.{ℕ, _<_}
 use native.Mathlib.Decide.{ℕ-discrete}
 use native.Mathlib.Omega.{arith}
 use borrow.Author.Tests.{leb-false, not-false}
 use lib.ListN.{length, getD, set, drop}
-use Rattle.model.specs.Lists.{upFrom, any}
+use Rattle.model.specs.Lists.{upFrom, anyOf}
 use Rattle.model.specs.Refusals.{Refusal, firstRefusal, Answer, answered, refused}
 use Rattle.model.specs.Loop.{size, depAt}
 use Rattle.model.specs.File.{loopOf}
-use Rattle.model.specs.Legality.{Placing, breaks, fitsAt}
-use Rattle.model.specs.Session.{State, Call, place, remove, Reply, isPlaced, firstBroken, breach, checks, effect, step}
+use Rattle.model.specs.Legality.{Placing, breaks, firstBreach, conflicts, fitsAt}
+use Rattle.model.specs.Session.{State, Call, place, remove, Reply, isPlaced, checks, effect, step}
 use Rattle.model.proofs.Lists.{and-both, false-not, none-first}
-use Rattle.model.proofs.Checks.{passes-head, passes-tail, passes-left, passes-right}
+use Rattle.model.proofs.Checks.{passes-head, passes-tail, passes-left, passes-right, not-found}
 use Rattle.model.proofs.Session.{step-refused, step-done}
 use Rattle.reservation.specs.Seats.{seats}
 use Rattle.reservation.proofs.Seats.{seat-none, seat-some}
-use Rattle.reservation.proofs.Placings.{conflicts, fits-tests}
+use Rattle.reservation.proofs.Placings.{fits-tests}
 use Rattle.board.specs.Board.{setupAs, bare, startsOf, Board, IsPut}
 use Rattle.board.specs.Moves.{replyOf, Did}
 use Rattle.board.specs.declared.Reply as declared
 use Rattle.board.specs.declared.Reply.the-variants as reply
 use Rattle.board.proofs.Readings.{starts-at, starts-set}
 use Rattle.board.proofs.Boards.{put-board, lift-board, sane-near}
-use Rattle.board.proofs.Refusing.{common, same-seats, known-inside, known-near, known-open}
+use Rattle.board.proofs.Refusals.{common, same-seats, known-inside, known-near, known-open}
 
 -- a number that is not a start is the blank
 pub blank-is : (xs : List ℕ) (o : ℕ) → seats xs o ≡ none → getD xs o 65535 ≡ 65535
@@ -35,11 +35,6 @@ blank-is xs o e = pick (ℕ-discrete (getD xs o 65535) 65535)
     pick : Dec (getD xs o 65535 ≡ 65535) → getD xs o 65535 ≡ 65535
     pick (yes q) = q
     pick (no n) = let z : some (getD xs o 65535) ≡ none = sym (seat-some (getD xs o 65535) n) ∙ e in let y : _≡_ {A = ℕ} 0 1 = cc in absurd (omega arith)
-
--- where the check of the dependences passes there is no broken one
-pub no-breach : (x : Option ℕ) → breach x .fails ≡ false → x ≡ none
-no-breach none q = refl
-no-breach (some e) q = let y : _≡_ {A = ℕ} 0 1 = cc in absurd (omega arith)
 
 -- no answer is a refusal too
 pub done-kept : {X : Type 0} (r : Reply) (x : Refusal) → answered r ≡ refused x → X
@@ -89,13 +84,13 @@ module _ {f : List ℕ} {ii h : ℕ} {xs rows : List ℕ} (b : Board f ii h xs r
 
     -- it fits
     pub place-fits : fitsAt (loopOf f) ii (seats xs) o t ≡ true
-    unfolding firstBroken
+    unfolding firstBreach
     place-fits =
         let later = passes-right (common f h o t xs) _ fine in
         fits-tests (loopOf f) ii (seats xs) o t
         ∙ and-both _ _
         (false-not _
-        (subst (λ (g : Placing). any (λ e. breaks ii g o t (depAt (loopOf f) e)) (upFrom 0 (length (loopOf f .deps))) ≡ false) (same-seats f ii h xs rows b o t) (none-first _ _ (no-breach _ (passes-head _ _ later)))))
+        (subst (λ (g : Placing). anyOf (λ e. breaks ii g o t (depAt (loopOf f) e)) (upFrom 0 (length (loopOf f .deps))) ≡ false) (same-seats f ii h xs rows b o t) (none-first _ _ (not-found 16 _ (passes-head _ _ later)))))
         (false-not _ (subst (λ (g : Placing). conflicts (loopOf f) ii g o t ≡ false) (same-seats f ii h xs rows b o t) (passes-head _ _ (passes-tail _ _ later))))
 
     -- placed

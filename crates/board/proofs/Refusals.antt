@@ -8,19 +8,18 @@ use native.Mathlib.Omega.{arith}
 use borrow.Author.Tests.{le-leb, lt-leb, lt-ltb, le-ltb, leb-false}
 use lib.Dec.{ltb}
 use lib.ListN.{getD, replicate}
-use Rattle.model.specs.Refusals.{Refusal, Check, check, firstRefusal}
+use Rattle.model.specs.Refusals.{Refusal, Check, check, range, outside, firstRefusal}
 use Rattle.model.specs.Loop.{size, opAt, LoopOk}
 use Rattle.model.specs.File.{loopOf, Accepted, fileChecks}
-use Rattle.model.specs.Legality.{Placing, selfConflict}
-use Rattle.model.specs.Search.{outside}
-use Rattle.model.specs.Session.{placedIn, isPlaced, absent, taken, late, firstBroken, breach, nowhere, checks, place, force, remove, openChecks}
+use Rattle.model.specs.Legality.{Placing, selfConflict, firstBreach, conflicts}
+use Rattle.model.specs.Session.{placedIn, isPlaced, absent, taken, late, unmet, nowhere, checks, place, force, remove, openChecks}
 use Rattle.model.proofs.Lists.{getD-filled}
 use Rattle.model.proofs.File.{accepted-ok}
-use Rattle.model.proofs.Checks.{refusal-append, refusal-early, passes-head, passes-tail}
+use Rattle.model.proofs.Checks.{refusal-append, refusal-early, passes-head, passes-tail, found-refused, found-passed}
 use Rattle.reservation.specs.Place.{firstTaken}
-use Rattle.reservation.specs.Seats.{seatOf, seats, firstBreach}
+use Rattle.reservation.specs.Seats.{seatOf, seats}
 use Rattle.reservation.proofs.Seats.{seat-none, seat-some}
-use Rattle.reservation.proofs.Placings.{conflicts, legal-digits, free-conflict, conflict-free}
+use Rattle.reservation.proofs.Placings.{legal-digits, free-conflict, conflict-free}
 use Rattle.board.specs.Board.{setupAs, bare, Board}
 use Rattle.board.proofs.Readings.{starts-at, seats-are}
 
@@ -89,16 +88,6 @@ module _ (f : List ℕ) (h o t : ℕ) (xs : List ℕ) where
 
 -- ---- dependences, then conflicts
 
--- a dependence is broken: the first is the detail
-broken-first : (x : Option ℕ) (e : ℕ) (rest : List Check) → x ≡ some e → firstRefusal (breach x ∷ rest) ≡ some (record { number = 16; detail = e })
-unfolding firstRefusal
-broken-first x e rest q = rw q
-
--- none is: the other checks decide
-none-broken : (x : Option ℕ) (rest : List Check) → x ≡ none → firstRefusal (breach x ∷ rest) ≡ firstRefusal rest
-unfolding firstRefusal
-none-broken x rest q = rw q
-
 -- a conflict, and none
 conflict-last : (b : Bool) → b ≡ true → firstRefusal (check b 17 0 ∷ []) ≡ some (record { number = 17; detail = 0 })
 unfolding firstRefusal
@@ -107,11 +96,6 @@ conflict-last b q = rw q
 none-last : (b : Bool) → b ≡ false → firstRefusal (check b 17 0 ∷ []) ≡ none
 unfolding firstRefusal
 none-last b q = rw q
-
--- the model's first broken dependence is the one that the walk finds
-same-broken : (f : List ℕ) (ii h o t : ℕ) (g g′ : Placing) → g ≡ g′ → firstBroken (setupAs f ii h) g o t ≡ firstBreach (loopOf f) ii g′ o t
-unfolding firstBroken firstBreach
-same-broken f ii h o t g g′ e = rw e
 
 -- an empty array places nothing
 blank-nowhere : (n : ℕ) → seats (replicate n 65535) ≡ nowhere
@@ -127,7 +111,7 @@ module _ (f : List ℕ) (ii h : ℕ) (xs rows : List ℕ) (b : Board f ii h xs r
   -- the checks after the common ones
   abbrev later : List Check
   later =
-      breach (firstBroken (setupAs f ii h) (placedIn (bare f xs .starts)) o t)
+      unmet (setupAs f ii h) (placedIn (bare f xs .starts)) o t
       ∷ check (conflicts (loopOf f) ii (placedIn (bare f xs .starts)) o t) 17 0
       ∷ []
 
@@ -139,13 +123,13 @@ module _ (f : List ℕ) (ii h : ℕ) (xs rows : List ℕ) (b : Board f ii h xs r
     -- by a broken dependence
     pub place-broken : (e : ℕ) → firstBreach (loopOf f) ii (seats xs) o t ≡ some e
         → firstRefusal (checks (setupAs f ii h) (place o t) (bare f xs)) ≡ some (record { number = 16; detail = e })
-    place-broken e q = refusal-append (common f h o t xs) later known ∙ broken-first _ e _ (same-broken f ii h o t _ _ same-seats ∙ q)
+    place-broken e q = refusal-append (common f h o t xs) later known ∙ found-refused 16 _ e _ (ap (λ (g : Placing). firstBreach (loopOf f) ii g o t) same-seats ∙ q)
 
     module _ (held : firstBreach (loopOf f) ii (seats xs) o t ≡ none) where
       -- the conflicts decide
       place-held : firstRefusal (checks (setupAs f ii h) (place o t) (bare f xs)) ≡ firstRefusal (check (conflicts (loopOf f) ii (seats xs) o t) 17 0 ∷ [])
       place-held =
-          refusal-append (common f h o t xs) later known ∙ none-broken _ _ (same-broken f ii h o t _ _ same-seats ∙ held)
+          refusal-append (common f h o t xs) later known ∙ found-passed 16 _ _ (ap (λ (g : Placing). firstBreach (loopOf f) ii g o t) same-seats ∙ held)
           ∙ ap (λ (g : Placing). firstRefusal (check (conflicts (loopOf f) ii g o t) 17 0 ∷ [])) same-seats
 
       -- nothing is taken
@@ -176,7 +160,7 @@ module _ (f : List ℕ) (ii h : ℕ) (xs rows : List ℕ) (b : Board f ii h xs r
 
 module _ (f : List ℕ) (ii h : ℕ) (xs : List ℕ) (o t : ℕ) where
   abbrev own : List Check
-  own = breach (firstBroken (setupAs f ii h) nowhere o t) ∷ check (selfConflict ii (opAt (loopOf f) o)) 17 0 ∷ []
+  own = unmet (setupAs f ii h) nowhere o t ∷ check (selfConflict ii (opAt (loopOf f) o)) 17 0 ∷ []
 
   -- a refusal by the common checks
   pub force-early : (r : Refusal) → firstRefusal (common f h o t xs) ≡ some r → firstRefusal (checks (setupAs f ii h) (force o t) (bare f xs)) ≡ some r
@@ -186,11 +170,11 @@ module _ (f : List ℕ) (ii h : ℕ) (xs : List ℕ) (o t : ℕ) where
     -- by a dependence of the operation with itself
     pub force-broken : (e : ℕ) → firstBreach (loopOf f) ii (seats (replicate n 65535)) o t ≡ some e
         → firstRefusal (checks (setupAs f ii h) (force o t) (bare f xs)) ≡ some (record { number = 16; detail = e })
-    force-broken e q = refusal-append (common f h o t xs) own known ∙ broken-first _ e _ (same-broken f ii h o t _ _ (sym (blank-nowhere n)) ∙ q)
+    force-broken e q = refusal-append (common f h o t xs) own known ∙ found-refused 16 _ e _ (ap (λ (g : Placing). firstBreach (loopOf f) ii g o t) (sym (blank-nowhere n)) ∙ q)
 
     module _ (held : firstBreach (loopOf f) ii (seats (replicate n 65535)) o t ≡ none) where
       force-held : firstRefusal (checks (setupAs f ii h) (force o t) (bare f xs)) ≡ firstRefusal (check (selfConflict ii (opAt (loopOf f) o)) 17 0 ∷ [])
-      force-held = refusal-append (common f h o t xs) own known ∙ none-broken _ _ (same-broken f ii h o t _ _ (sym (blank-nowhere n)) ∙ held)
+      force-held = refusal-append (common f h o t xs) own known ∙ found-passed 16 _ _ (ap (λ (g : Placing). firstBreach (loopOf f) ii g o t) (sym (blank-nowhere n)) ∙ held)
 
       -- by a use that is longer than the interval
       pub force-clash : selfConflict ii (opAt (loopOf f) o) ≡ true → firstRefusal (checks (setupAs f ii h) (force o t) (bare f xs)) ≡ some (record { number = 17; detail = 0 })
@@ -205,7 +189,7 @@ module _ (f : List ℕ) (ii h : ℕ) (xs : List ℕ) (o t : ℕ) where
 module _ (f : List ℕ) (ii h rows : ℕ) where
   -- the checks after the reader's
   abbrev pub numbers : List Check
-  numbers = check (outside 4096 ii) 7 1 ∷ check (outside 4096 h) 7 2 ∷ check (ltb rows ii) 20 rows ∷ []
+  numbers = range 1 4096 ii ∷ range 2 4096 h ∷ check (ltb rows ii) 20 rows ∷ []
 
   -- the reader's refusal
   pub open-early : (r : Refusal) → firstRefusal (fileChecks f) ≡ some r → firstRefusal (openChecks f ii h rows) ≡ some r

@@ -1,2 +1,0 @@
--- Hand-written laws of the crate that belong to no one function.
-pub mod Turns
