@@ -20,6 +20,10 @@ use Rattle.model.proofs.Session.{step-refused, step-done}
 use Rattle.reservation.specs.Seats.{seats}
 use Rattle.reservation.proofs.Seats.{seat-none, seat-some}
 use Rattle.reservation.proofs.Placings.{fits-tests}
+use Rattle.refusals.specs.Checked.{refusalOf}
+use Rattle.refusals.specs.declared.Checked.{Checked}
+use Rattle.refusals.specs.declared.Checked.the-variants as checked
+use Rattle.board.specs.Checks.{asReply}
 use Rattle.board.specs.Board.{setupAs, bare, startsOf, Board, IsPut}
 use Rattle.board.specs.Moves.{replyOf, Did}
 use Rattle.board.specs.declared.Reply as declared
@@ -42,7 +46,7 @@ done-kept r x e = let y : _≡_ {A = ℕ} 0 1 = cc in absurd (omega arith)
 
 module _ {f : List ℕ} {ii h : ℕ} {xs rows : List ℕ} (b : Board f ii h xs rows) where
   -- a refused call leaves all as it was
-  pub did-refused : (c : Call) (n d : ℕ) → firstRefusal (checks (setupAs f ii h) c (bare f xs)) ≡ some (record { number = n; detail = d }) → Did c f ii h xs rows xs rows (reply.Refused n d)
+  did-refused : (c : Call) (n d : ℕ) → firstRefusal (checks (setupAs f ii h) c (bare f xs)) ≡ some (record { number = n; detail = d }) → Did c f ii h xs rows xs rows (reply.Refused n d)
   did-refused c n d e =
       let s : step (setupAs f ii h) c (bare f xs) ≡ (bare f xs, refused (record { number = n; detail = d })) = step-refused (setupAs f ii h) c (bare f xs) (record { number = n; detail = d }) e in
       record {
@@ -52,6 +56,10 @@ module _ {f : List ℕ} {ii h : ℕ} {xs rows : List ℕ} (b : Board f ii h xs r
         rest = refl;
         kept = λ x q. (refl, refl);
       }
+
+  -- so does one whose check refuses it, the refusal passed on
+  pub did-passed : (c : Call) {x : Checked} {r : declared.Reply} {n d : ℕ} → refusalOf x ≡ firstRefusal (checks (setupAs f ii h) c (bare f xs)) → x ≡ checked.Refused n d → r ≡ asReply x → Did c f ii h xs rows xs rows r
+  did-passed c {n = n} {d = d} is e t = rw (t ∙ ap asReply e) (did-refused c n d (sym is ∙ ap refusalOf e))
 
   -- a call that is done: its effect is that of the model
   pub did-done : (c : Call) (r : declared.Reply) {xs′ rows′ : List ℕ} → firstRefusal (checks (setupAs f ii h) c (bare f xs)) ≡ none

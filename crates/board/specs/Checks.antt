@@ -1,10 +1,17 @@
--- What the checks of a call answer. Assumes nothing.
-use mathlib.Core.Option.{Option, none, some}
-use Rattle.model.specs.Refusals.{Refusal}
-use Rattle.board.specs.declared.Checked.{Checked}
-use Rattle.board.specs.declared.Checked.the-variants as checked
+-- Refusals passed on from one answer to the next. Assumes nothing.
+use Rattle.refusals.specs.declared.Checked.{Checked}
+use Rattle.refusals.specs.declared.Checked.the-variants as checked
+use Rattle.reservation.specs.declared.Broken.{Broken}
+use Rattle.reservation.specs.declared.Broken.the-variants as broken
+use Rattle.board.specs.declared.Reply.{Reply}
+use Rattle.board.specs.declared.Reply.the-variants as reply
 
--- the refusal, where there is one
-abbrev pub refusalOf : Checked → Option Refusal
-refusalOf checked.Fine = none
-refusalOf (checked.Refused n d) = some (record { number = n; detail = d })
+-- a broken dependence as a refusal
+abbrev pub asUnmet : Broken → Checked
+asUnmet broken.Nothing = checked.Fine
+asUnmet (broken.At e) = checked.Refused 16 e
+
+-- a check's refusal as a call's answer
+abbrev pub asReply : Checked → Reply
+asReply checked.Fine = reply.Done
+asReply (checked.Refused n d) = reply.Refused n d

@@ -1,7 +1,7 @@
 // What each call is refused for, in document 01's order. Internal: each function asks for an accepted file.
-use crate::Checked;
 use loop_access::first_use;
 use loop_access::op_count;
+use refusals::Checked;
 use reservation::Broken;
 use reservation::Place;
 use reservation::deps::first_broken;
@@ -14,7 +14,8 @@ ghost use Rattle.model.specs.File.{Accepted};
 ghost use Rattle.model.specs.Session.{checks, absent, taken, late};
 ghost use Rattle.model.specs.Session as model;
 ghost use Rattle.board.specs.Board.{Board, Named, Numbers, setupAs, bare};
-ghost use Rattle.board.specs.Checks.{refusalOf};
+ghost use Rattle.refusals.specs.Checked.{refusalOf};
+ghost use Rattle.board.specs.Checks.{asUnmet};
 
 // An operation that is there and not placed, and a start below the horizon: what placing and forcing have in common.
 fn known(file: &[u8], horizon: usize, op: usize, start: usize, starts: &[u16; 64]) -> Checked
@@ -31,6 +32,16 @@ fn known(file: &[u8], horizon: usize, op: usize, start: usize, starts: &[u16; 64
         return Checked::Refused(15, op);
     }
     Checked::Fine
+}
+
+// A broken dependence as a refusal. (Where none is broken there is none, and it is not asked for.)
+fn unmet(b: Broken) -> Checked
+    ensures { λ c. ⌜ c ≡ asUnmet b ⌝ }
+{
+    match b {
+        Broken::Nothing => Checked::Fine,
+        Broken::At(e) => Checked::Refused(16, e),
+    }
 }
 
 // Placing an operation at a start.
@@ -51,9 +62,9 @@ pub fn placeable(
         return first;
     };
     let broken = first_broken(file, op, start, interval, starts);
-    if let Broken::At(e) = broken {
-        return Checked::Refused(16, e);
-    }
+    let Broken::Nothing = broken else {
+        return unmet(broken);
+    };
     let place = conflict(file, op, first_use(file, op), start, interval, rows);
     let Place::Free = place else {
         return Checked::Refused(17, 0);
@@ -79,9 +90,9 @@ pub fn forceable(
     };
     let nobody = [65535u16; 64];
     let broken = first_broken(file, op, start, interval, &nobody);
-    if let Broken::At(e) = broken {
-        return Checked::Refused(16, e);
-    }
+    let Broken::Nothing = broken else {
+        return unmet(broken);
+    };
     if too_long(file, op, interval) {
         return Checked::Refused(17, 0);
     }

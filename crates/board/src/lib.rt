@@ -24,12 +24,6 @@ pub enum Reply {
     Refused(usize, usize),
 }
 
-// Nothing against it, or a refusal with its number and detail.
-pub enum Checked {
-    Fine,
-    Refused(usize, usize),
-}
-
 // Takes out a placed operation.
 fn lift(file: &[u8], op: usize, interval: usize, starts: &mut [u16; 64], rows: &mut [u64])
     requires { ⌜ Board (now file) interval 4096 (now starts) (now rows) × (op < size (loopOf (now file))) × (getD (now starts) op 65535 < 65535) ⌝ }

@@ -1,5 +1,4 @@
 // What the calls do to the starts and the rows, on slices: the file stands in the first `length` bytes of `store`. Internal: each function asks that the rows are the table of the starts.
-use crate::Checked;
 use crate::Reply;
 use crate::checks::forceable;
 use crate::checks::placeable;
@@ -10,6 +9,7 @@ use loop_access::dep_count;
 use loop_access::op_count;
 use loop_access::source;
 use loop_access::target;
+use refusals::Checked;
 use reservation::deps::breaks_at;
 use reservation::pairs::overlap;
 ghost use mathlib.Core.Path.{_≡_};
@@ -19,6 +19,7 @@ ghost use Rattle.model.specs.Loop.{size};
 ghost use Rattle.model.specs.File.{loopOf, Accepted};
 ghost use Rattle.model.specs.Session as model;
 ghost use Rattle.board.specs.Board.{Numbers, Named, Sane, Board, setupAs, startsOf};
+ghost use Rattle.board.specs.Checks.{asReply};
 ghost use Rattle.board.specs.Moves.{Did, Removed, HitsAre, hitBy, HitIs, Cleared, Agrees, Thinned, Restored};
 
 // Places an operation, or says why not.
@@ -37,9 +38,9 @@ pub fn place(
 {
     let file = &store[..length_];
     let checked = placeable(file, interval, horizon, op, start, starts, rows);
-    if let Checked::Refused(number, detail) = checked {
-        return Reply::Refused(number, detail);
-    }
+    let Checked::Fine = checked else {
+        return passed_on(checked);
+    };
     put(file, op, start, interval, starts, rows);
     Reply::Done
 }
@@ -58,9 +59,9 @@ pub fn remove(
 {
     let file = &store[..length_];
     let checked = removable(file, op, starts);
-    if let Checked::Refused(number, detail) = checked {
-        return Reply::Refused(number, detail);
-    }
+    let Checked::Fine = checked else {
+        return passed_on(checked);
+    };
     lift(file, op, interval, starts, rows);
     Reply::Done
 }
@@ -81,12 +82,22 @@ pub fn force(
 {
     let file = &store[..length_];
     let checked = forceable(file, interval, horizon, op, start, starts);
-    if let Checked::Refused(number, detail) = checked {
-        return Reply::Refused(number, detail);
-    }
+    let Checked::Fine = checked else {
+        return passed_on(checked);
+    };
     let mask = displace(file, op, start, interval, starts, rows);
     put(file, op, start, interval, starts, rows);
     Reply::Displaced(mask)
+}
+
+// A check's refusal as the call's answer. (A check that is fine has none, and is not asked for one.)
+fn passed_on(c: Checked) -> Reply
+    ensures { λ r. ⌜ r ≡ asReply c ⌝ }
+{
+    match c {
+        Checked::Fine => Reply::Done,
+        Checked::Refused(number, detail) => Reply::Refused(number, detail),
+    }
 }
 
 // Takes out each operation that is in the way of `op` at `start`, and tells them by a bit each.

@@ -1,16 +1,19 @@
 -- The reader's answer and the model's reading. Assumes nothing.
-use mathlib.Core.Path.{_≡_, refl, ap, _∙_}
-use mathlib.Core.List.{List}
+use mathlib.Core.Path.{_≡_, refl, sym, ap, _∙_}
+use mathlib.Core.List.{List, _++_}
 use mathlib.Core.Option.{Option, none, some}
 use Prim.Native.Nat.{ℕ}
 use native.Mathlib.Omega.{arith}
 use lib.ListN.{length}
-use Rattle.model.specs.Refusals.{Refusal, firstRefusal, Answer, answered, refused, settled}
+use Rattle.model.specs.Refusals.{Refusal, Check, firstRefusal, Answer, answered, refused, settled}
 use Rattle.model.specs.Loop.{size, allUses}
 use Rattle.model.specs.File.{readFile, fileChecks, loopOf, Accepted, opCount, depCount, firstUse}
 use Rattle.model.proofs.Lists.{length-tabulate}
+use Rattle.model.proofs.Checks.{refusal-early}
 use Rattle.model.proofs.File.{size-is, deps-is, all-uses-is}
-use Rattle.loop_file.specs.Read.{refusal, Counts, readingOf, counted}
+use Rattle.refusals.specs.Checked.{refusalOf}
+use Rattle.loop_file.specs.Read.{refusal, Counts, readingOf, counted, asUnread}
+use Rattle.loop_file.specs.declared.Reading.{Reading}
 use Rattle.loop_file.specs.declared.Reading.the-variants as reading
 
 -- ---- from the tables to the reader's answer
@@ -55,3 +58,7 @@ read-refused f n d e = pick (firstRefusal (fileChecks f)) e
     pick : (o : Option Refusal) → readingOf (reading.Refused n d) ≡ counted (settled o (loopOf f)) → o ≡ some (refusal n d)
     pick (some r) q = cc
     pick none q = let z : _≡_ {A = ℕ} 0 1 = cc in absurd (omega arith)
+
+-- its refusal, passed on, is that of every table that begins with the file's
+pub unread-first : (f : List ℕ) (rest : List Check) {a : Reading} {n d : ℕ} → readingOf a ≡ counted (readFile f) → a ≡ reading.Refused n d → refusalOf (asUnread a) ≡ firstRefusal (fileChecks f ++ rest)
+unread-first f rest {n = n} {d = d} h e = ap (λ x. refusalOf (asUnread x)) e ∙ sym (refusal-early (fileChecks f) rest _ (read-refused f n d (sym (ap readingOf e) ∙ h)))

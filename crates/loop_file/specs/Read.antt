@@ -6,6 +6,8 @@ use Rattle.model.specs.Lists.{upFrom}
 use Rattle.model.specs.Refusals.{Refusal, Check, Answer, answered, refused}
 use Rattle.model.specs.Loop.{Loop, size, allUses}
 use Rattle.model.specs.File.{Section, opCount, depCount, depsAt, opRecord, usesOf, firstUse, opChecks, opUseChecks, usesChecks, depChecks}
+use Rattle.refusals.specs.declared.Checked.{Checked}
+use Rattle.refusals.specs.declared.Checked.the-variants as checked
 use Rattle.loop_file.specs.declared.Reading as reading-type
 use Rattle.loop_file.specs.declared.Reading.the-variants as reading
 use Rattle.loop_file.specs.declared.reader.Part as part-type
@@ -32,6 +34,11 @@ readingOf (reading.Refused n d) = refused (refusal n d)
 abbrev pub counted : Answer Loop → Answer Counts
 counted (answered l) = answered (record { ops = size l; uses = length (allUses l); deps = length (l .deps) })
 counted (refused r) = refused r
+
+-- its refusal as that of a check
+abbrev pub asUnread : reading-type.Reading → Checked
+asUnread (reading.Accepted a b c) = checked.Refused 0 0
+asUnread (reading.Refused n d) = checked.Refused n d
 
 -- ---- its parts
 

@@ -4,9 +4,10 @@ mod reader;
 
 use crate::reader::Part;
 use loop_access::bytes::word;
+use refusals::Checked;
 ghost use mathlib.Core.Path.{_≡_};
 ghost use Rattle.model.specs.File.{readFile, operBody, usesBody, depsBody};
-ghost use Rattle.loop_file.specs.Read.{asReading, readingOf, counted};
+ghost use Rattle.loop_file.specs.Read.{asReading, asUnread, readingOf, counted};
 
 // What reading a file answers: the numbers of operations, uses and dependences, or a refusal with its number and detail.
 pub enum Reading {
@@ -40,6 +41,16 @@ fn passed_on(p: Part) -> Reading
     match p {
         Part::Fine(_) => Reading::Refused(0, 0),
         Part::Refused(number, detail) => Reading::Refused(number, detail),
+    }
+}
+
+// The reader's refusal as that of a check, for an entry point to pass on. (An accepted reading has none, and is not asked for one.)
+pub fn unread(r: Reading) -> Checked
+    ensures { λ c. ⌜ c ≡ asUnread r ⌝ }
+{
+    match r {
+        Reading::Accepted(_, _, _) => Checked::Refused(0, 0),
+        Reading::Refused(number, detail) => Checked::Refused(number, detail),
     }
 }
 

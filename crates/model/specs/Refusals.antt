@@ -32,6 +32,10 @@ outside most x = ltb x 1 || ltb most x
 abbrev pub range : (field most x : ℕ) → Check
 range field most x = check (outside most x) 7 field
 
+-- 20: a lent list or table has fewer numbers than are needed
+abbrev pub lent : (needs has : ℕ) → Check
+lent needs has = check (ltb has needs) 20 has
+
 -- the first refusal met; none where no check fails
 unfoldable pub firstRefusal : List Check → Option Refusal
 firstRefusal [] = none

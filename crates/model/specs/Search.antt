@@ -8,7 +8,7 @@ use lib.Dec.{eqb, ltb}
 use lib.ListN.{length, getD, take, drop, replicate}
 use Rattle.model.specs.Lists.{upFrom, first, countIf, maxOf}
 use Rattle.model.specs.Integers.{ceilDiv}
-use Rattle.model.specs.Refusals.{Refusal, Check, check, range, firstRefusal, Answer, answered, refused}
+use Rattle.model.specs.Refusals.{Refusal, Check, range, lent, firstRefusal, Answer, answered, refused}
 use Rattle.model.specs.Loop.{Loop, size, opAt}
 use Rattle.model.specs.File.{fileChecks, loopOf}
 use Rattle.model.specs.Legality.{legal}
@@ -111,7 +111,7 @@ requestChecks q =
 
 -- 20: the output list, of which there is to be a number for each operation, then the scratch table, of which 4,096 rows are used
 unfoldable pub roomChecks : Loop → ℕ → ℕ → List Check
-roomChecks l list rows = check (ltb list (size l)) 20 list ∷ check (ltb rows 4096) 20 rows ∷ []
+roomChecks l list rows = lent (size l) list ∷ lent 4096 rows ∷ []
 
 -- 1 to 6, 7, 20
 unfoldable pub searchChecks : List ℕ → Request → ℕ → ℕ → List Check

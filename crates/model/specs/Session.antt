@@ -6,7 +6,7 @@ use Prim.Native.Nat.{ℕ, _+_, _-_, _^_}
 use lib.Dec.{eqb, leb, ltb}
 use lib.ListN.{length, getD, set, take, drop, replicate}
 use Rattle.model.specs.Lists.{upFrom, anyOf, sumOf}
-use Rattle.model.specs.Refusals.{Check, check, ifFound, range, Answer, answered, refused, settle}
+use Rattle.model.specs.Refusals.{Check, check, ifFound, range, lent, Answer, answered, refused, settle}
 use Rattle.model.specs.Loop.{Loop, size, opAt}
 use Rattle.model.specs.File.{fileChecks, loopOf}
 use Rattle.model.specs.Legality.{Placing, selfConflict, touches, breaks, firstBreach, conflictsWith, conflicts}
@@ -23,7 +23,7 @@ pub record Setup : Type 0 where
 -- 1 to 6, 7, 20, for a file, an interval, a horizon and a lent table of `rows` rows
 unfoldable pub openChecks : List ℕ → ℕ → ℕ → ℕ → List Check
 openChecks f ii horizon rows =
-    fileChecks f ++ (range 1 4096 ii ∷ range 2 4096 horizon ∷ check (ltb rows ii) 20 rows ∷ [])
+    fileChecks f ++ (range 1 4096 ii ∷ range 2 4096 horizon ∷ lent ii rows ∷ [])
 
 -- the answer for any file, numbers and table
 unfoldable pub openFile : List ℕ → ℕ → ℕ → ℕ → Answer Setup

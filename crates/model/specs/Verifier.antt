@@ -2,10 +2,10 @@
 use mathlib.Core.List.{List, [], _∷_, _++_}
 use mathlib.Core.Option.{Option, none, some}
 use Prim.Native.Nat.{ℕ}
-use lib.Dec.{leb, ltb}
+use lib.Dec.{leb}
 use lib.ListN.{length, getD, take}
 use Rattle.model.specs.Lists.{upFrom, pairs, first}
-use Rattle.model.specs.Refusals.{Check, check, ifFound, range, Answer, settle}
+use Rattle.model.specs.Refusals.{Check, ifFound, range, lent, Answer, settle}
 use Rattle.model.specs.Loop.{Loop, size, depAt}
 use Rattle.model.specs.File.{fileChecks, loopOf}
 use Rattle.model.specs.Legality.{placed, broken, pairConflict}
@@ -16,13 +16,17 @@ pub data Verdict : Type 0 where
   breach : ℕ → Verdict
   clash : ℕ → ℕ → Verdict
 
--- 7, 20, 15; the detail of 15 is the first operation whose start is not below 4,096
+-- 15: the first of n starts that is not below 4,096 is the detail
+abbrev pub lateStart : List ℕ → ℕ → Check
+lateStart xs n = ifFound 15 (first (λ o. leb 4096 (getD xs o 0)) (upFrom 0 n))
+
+-- 7, 20, 15
 unfoldable pub proposalChecks : Loop → ℕ → List ℕ → List Check
-proposalChecks l ii xs =
-    range 1 4096 ii
-    ∷ check (ltb (length xs) (size l)) 20 (length xs)
-    ∷ ifFound 15 (first (λ o. leb 4096 (getD xs o 0)) (upFrom 0 (size l)))
-    ∷ []
+proposalChecks l ii xs = range 1 4096 ii ∷ lent (size l) (length xs) ∷ lateStart xs (size l) ∷ []
+
+-- 1 to 6, then these
+unfoldable pub proposedChecks : List ℕ → ℕ → List ℕ → List Check
+proposedChecks f ii xs = fileChecks f ++ proposalChecks (loopOf f) ii xs
 
 -- dependences come first, in number order; then pairs of operations, in dictionary order
 abbrev pub judge : Option ℕ → Option (ℕ × ℕ) → Verdict
@@ -45,4 +49,4 @@ verdict l ii xs = judge (firstBroken l ii xs) (firstPair l ii xs)
 -- the answer for any file, interval and list: 1 to 6, 7, 20, 15, then the verdict on the first starts
 unfoldable pub verifyFile : List ℕ → ℕ → List ℕ → Answer Verdict
 verifyFile f ii xs =
-    settle (fileChecks f ++ proposalChecks (loopOf f) ii xs) (verdict (loopOf f) ii (take (size (loopOf f)) xs))
+    settle (proposedChecks f ii xs) (verdict (loopOf f) ii (take (size (loopOf f)) xs))

@@ -1,8 +1,8 @@
 // The library that a compiler links: the entry points as C functions over numbers and slices. A slice is a pointer and a length, `answer` a pointer to eight numbers. A function that has
 // an answer returns 0, or the number of the refusal, and writes all eight: first the refusal's detail, 0 where there is none, then what was found, then zeros. None asks for anything.
-use board::Checked;
 use bounds::LowerBounds;
 use loop_file::Reading;
+use refusals::Checked;
 use search::Searched;
 use verifier::Verdict;
 ghost use mathlib.Core.Path.{_≡_};

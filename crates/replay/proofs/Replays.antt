@@ -19,8 +19,8 @@ use Rattle.session.specs.View.{Stepped, Opened}
 use Rattle.session.specs.Undo.{Run, stop}
 use Rattle.session.specs.declared.Session.{Session}
 use Rattle.board.specs.declared.Reply.{Reply}
-use Rattle.board.specs.declared.Checked.{Checked}
-use Rattle.board.specs.declared.Checked.the-variants as checked
+use Rattle.refusals.specs.declared.Checked.{Checked}
+use Rattle.refusals.specs.declared.Checked.the-variants as checked
 use Rattle.session.proofs.Calls.{stands-marks, run-then, run-count, from-open, ran}
 use Rattle.replay.specs.Words.{written, numberOf, wordsOf}
 use Rattle.replay.specs.Replay.{callCount, callAt, firstCalls, callsOf, kindCheck, callChecks, replayFile, replyWords, allWords, startWords, endWords, repliesLeft, startsLeft, rowsLeft, Replayed, Made}

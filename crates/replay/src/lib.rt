@@ -2,8 +2,8 @@
 // Internal: what `mw_session` is made of.
 mod parts;
 
-use board::Checked;
 use board::Reply;
+use refusals::Checked;
 use session::Session;
 ghost use mathlib.Core.Path.{_≡_};
 ghost use mathlib.Core.List.{[], _∷_, flatMap};
@@ -11,7 +11,7 @@ ghost use Prim.Native.Nat.{_+_, _*_, _-_, _≤_, _<_};
 ghost use lib.ListN.{length};
 ghost use Rattle.model.specs.Lists.{upFrom};
 ghost use Rattle.model.specs.Refusals.{firstRefusal};
-ghost use Rattle.board.specs.Checks.{refusalOf};
+ghost use Rattle.refusals.specs.Checked.{refusalOf};
 ghost use Rattle.board.specs.Moves.{replyOf};
 ghost use Rattle.session.specs.View.{Valid};
 ghost use Rattle.replay.specs.Words.{written};

@@ -1,13 +1,12 @@
--- What comes of a request: its numbers and the lent memory, check by check; and the whole answer of the search, return by return. Assumes nothing.
+-- What comes of a request: all checks of the search, and its whole answer, return by return. Assumes nothing.
 use mathlib.Core.Path.{_≡_, refl, sym, ap, _∙_}
-use mathlib.Core.Bool.{true, false}
 use mathlib.Core.List.{List, _++_, append-assoc}
 use mathlib.Core.Option.{none, some}
-use Prim.Native.Nat.{ℕ, _≤_, _<_}
+use Prim.Native.Nat.{ℕ, _≤_}
 use native.Mathlib.Omega.{arith}
 use lib.ListN.{length}
-use borrow.Author.Tests.{ltb-false, lt-ltb, le-ltb}
-use Rattle.model.specs.Refusals.{Refusal, Check, outside, firstRefusal}
+use borrow.Author.Tests.{ltb-false}
+use Rattle.model.specs.Refusals.{Refusal, Check, firstRefusal}
 use Rattle.model.specs.Loop.{Loop, size}
 use Rattle.model.specs.File.{fileChecks, loopOf, Accepted, readFile}
 use Rattle.model.specs.Bounds.{resourceBound, Lower, LowerIs, cyclic, beyond, within}
@@ -20,52 +19,13 @@ use Rattle.loop_file.proofs.Answers.{IsAccepted, read-refused}
 use Rattle.bounds.specs.Answer.{boundsOf}
 use Rattle.bounds.specs.declared.LowerBounds.{LowerBounds}
 use Rattle.bounds.specs.declared.LowerBounds.the-variants as lower
-use Rattle.search.specs.Request.{refusalOf, AskedIs}
-use Rattle.search.specs.Answer.{asUnread, asRefused, asUnbounded, Searches, Passed, Attempted}
-use Rattle.search.specs.declared.request.Asked.{Asked}
-use Rattle.search.specs.declared.request.Asked.the-variants as asked
+use Rattle.refusals.specs.Checked.{refusalOf}
+use Rattle.refusals.specs.declared.Checked.{Checked}
+use Rattle.refusals.specs.declared.Checked.the-variants as checked
+use Rattle.loop_file.specs.Read.{asUnread}
+use Rattle.search.specs.Request.{AskedIs}
+use Rattle.search.specs.Answer.{asRefused, asUnbounded, Searches, Passed, Attempted}
 use Rattle.search.specs.declared.Searched.{Searched}
-
--- ---- the checks of a request
-
-module _ (n cap horizon budget list rows : ℕ) where
-  -- the cap
-  pub cap-refused : outside 4096 cap ≡ true → AskedIs n cap horizon budget list rows (asked.Refused 7 1)
-  unfolding requestChecks firstRefusal
-  cap-refused a l e = rw a
-
-  -- the horizon, where the cap passes
-  pub horizon-refused : outside 4096 cap ≡ false → outside 4096 horizon ≡ true → AskedIs n cap horizon budget list rows (asked.Refused 7 2)
-  unfolding requestChecks firstRefusal
-  horizon-refused a b l e = rw (a, b)
-
-  -- the budget, where these pass
-  pub budget-refused : outside 4096 cap ≡ false → outside 4096 horizon ≡ false → outside 1000000 budget ≡ true → AskedIs n cap horizon budget list rows (asked.Refused 7 3)
-  unfolding requestChecks firstRefusal
-  budget-refused a b d l e = rw (a, b, d)
-
-  -- where all three pass the lent memory decides
-  room-asked : outside 4096 cap ≡ false → outside 4096 horizon ≡ false → outside 1000000 budget ≡ false → (l : Loop)
-      → firstRefusal (requestChecks (record { cap = cap; horizon = horizon; budget = budget }) ++ roomChecks l list rows) ≡ firstRefusal (roomChecks l list rows)
-  unfolding requestChecks firstRefusal
-  room-asked a b d l = rw (a, b, d)
-
-  -- the list
-  pub list-refused : outside 4096 cap ≡ false → outside 4096 horizon ≡ false → outside 1000000 budget ≡ false → list < n → AskedIs n cap horizon budget list rows (asked.Refused 20 list)
-  unfolding roomChecks firstRefusal
-  list-refused a b d h l e = rw (room-asked a b d l, lt-ltb list (size l) (omega arith))
-
-  -- the table, where the list is long enough
-  pub rows-refused : outside 4096 cap ≡ false → outside 4096 horizon ≡ false → outside 1000000 budget ≡ false → n ≤ list → rows < 4096
-      → AskedIs n cap horizon budget list rows (asked.Refused 20 rows)
-  unfolding roomChecks firstRefusal
-  rows-refused a b d h k l e = rw (room-asked a b d l, le-ltb list (size l) (omega arith), lt-ltb rows 4096 k)
-
-  -- nothing is against it
-  pub none-refused : outside 4096 cap ≡ false → outside 4096 horizon ≡ false → outside 1000000 budget ≡ false → n ≤ list → 4096 ≤ rows
-      → AskedIs n cap horizon budget list rows asked.Fine
-  unfolding roomChecks firstRefusal
-  none-refused a b d h k l e = rw (room-asked a b d l, le-ltb list (size l) (omega arith), le-ltb rows 4096 k)
 
 -- ---- all checks
 
@@ -109,20 +69,20 @@ bound-positive l x y (within c r i g) =
 
 module _ {f : List ℕ} {cap horizon budget : ℕ} {list rows : List ℕ} where
   -- the reader's refusal
-  pub by-file : {a : Reading} {r : Searched} {m d : ℕ} → readingOf a ≡ counted (readFile f) → a ≡ reading.Refused m d → r ≡ asUnread a → Searches f cap horizon budget list rows r list rows
+  pub by-file : {a : Reading} {r : Searched} {m d : ℕ} → readingOf a ≡ counted (readFile f) → a ≡ reading.Refused m d → r ≡ asRefused (asUnread a) → Searches f cap horizon budget list rows r list rows
   by-file {m = m} {d = d} h e t =
       let z : firstRefusal (fileChecks f) ≡ some (refusal m d) = read-refused f m d (sym (ap readingOf e) ∙ h) in
-      rw (t ∙ ap asUnread e) (record { says = by-check (refusal m d) (file-first f _ (length list) (length rows) (refusal m d) z) refl; list-is = refl; rows-are = refl })
+      rw (t ∙ ap (λ x. asRefused (asUnread x)) e) (record { says = by-check (refusal m d) (file-first f _ (length list) (length rows) (refusal m d) z) refl; list-is = refl; rows-are = refl })
 
   -- the request's
-  pub by-request : {n u k : ℕ} {a : Asked} {r : Searched} {m d : ℕ} → IsAccepted f n u k → AskedIs n cap horizon budget (length list) (length rows) a → a ≡ asked.Refused m d → r ≡ asRefused a
+  pub by-request : {n u k : ℕ} {a : Checked} {r : Searched} {m d : ℕ} → IsAccepted f n u k → AskedIs n cap horizon budget (length list) (length rows) a → a ≡ checked.Refused m d → r ≡ asRefused a
       → Searches f cap horizon budget list rows r list rows
   by-request {m = m} {d = d} known h e t =
       let z = later-decide f _ (length list) (length rows) (known .file) ∙ sym (h (loopOf f) (known .ops-are)) ∙ ap refusalOf e in
       rw (t ∙ ap asRefused e) (record { says = by-check (refusal m d) z refl; list-is = refl; rows-are = refl })
 
   -- nothing is against it
-  pub all-pass : {n u k : ℕ} {a : Asked} → IsAccepted f n u k → AskedIs n cap horizon budget (length list) (length rows) a → a ≡ asked.Fine → Passes f n cap horizon budget list rows
+  pub all-pass : {n u k : ℕ} {a : Checked} → IsAccepted f n u k → AskedIs n cap horizon budget (length list) (length rows) a → a ≡ checked.Fine → Passes f n cap horizon budget list rows
   unfolding requestChecks roomChecks
   all-pass known h e =
       let q : Request = record { cap = cap; horizon = horizon; budget = budget } in

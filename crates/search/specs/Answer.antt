@@ -8,12 +8,10 @@ use Rattle.model.specs.Loop.{Loop, size}
 use Rattle.model.specs.File.{loopOf, Accepted}
 use Rattle.model.specs.Bounds.{Lower}
 use Rattle.model.specs.Search.{Outcome, found, ended, sweep, intervals, SearchIs, listAfter, rowsAfter}
-use Rattle.loop_file.specs.declared.Reading.{Reading}
-use Rattle.loop_file.specs.declared.Reading.the-variants as reading
+use Rattle.refusals.specs.declared.Checked.{Checked}
+use Rattle.refusals.specs.declared.Checked.the-variants as checked
 use Rattle.bounds.specs.declared.LowerBounds.{LowerBounds}
 use Rattle.bounds.specs.declared.LowerBounds.the-variants as lower
-use Rattle.search.specs.declared.request.Asked.{Asked}
-use Rattle.search.specs.declared.request.Asked.the-variants as asked
 use Rattle.search.specs.declared.Searched.{Searched}
 use Rattle.search.specs.declared.Searched.the-variants as searched
 
@@ -32,15 +30,10 @@ answerOf l list (searched.Found s) =
 answerOf l list (searched.Ended n d k) = answered (ended (record { number = n; detail = d }) k)
 answerOf l list (searched.Refused n d) = refused (record { number = n; detail = d })
 
--- the reader's refusal as the search's
-abbrev pub asUnread : Reading → Searched
-asUnread (reading.Accepted a b c) = searched.Refused 0 0
-asUnread (reading.Refused n d) = searched.Refused n d
-
--- the request's
-abbrev pub asRefused : Asked → Searched
-asRefused asked.Fine = searched.Refused 0 0
-asRefused (asked.Refused n d) = searched.Refused n d
+-- a check's refusal as the search's
+abbrev pub asRefused : Checked → Searched
+asRefused checked.Fine = searched.Refused 0 0
+asRefused (checked.Refused n d) = searched.Refused n d
 
 -- the bounds'
 abbrev pub asUnbounded : LowerBounds → Searched

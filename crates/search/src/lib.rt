@@ -6,9 +6,9 @@ mod sweep;
 
 use bounds::LowerBounds;
 use loop_file::Reading;
-use request::Asked;
+use refusals::Checked;
 ghost use mathlib.Core.Path.{_≡_};
-ghost use Rattle.search.specs.Answer.{asUnread, asRefused, asUnbounded, Searches};
+ghost use Rattle.search.specs.Answer.{asRefused, asUnbounded, Searches};
 
 // A schedule: its interval, the two bounds, the stage count and the probes that it took. The starts are in the caller's list.
 pub struct Solution {
@@ -39,10 +39,10 @@ pub fn search(
 {
     let reading = loop_file::read(file);
     let Reading::Accepted(n, _, _) = reading else {
-        return unread(reading);
+        return refused(loop_file::unread(reading));
     };
     let asked = request::first_refusal(n, cap, horizon, budget, list.len(), rows.len());
-    let Asked::Fine = asked else {
+    let Checked::Fine = asked else {
         return refused(asked);
     };
     let lower = bounds::lower(file);
@@ -62,23 +62,13 @@ pub fn search(
     )
 }
 
-// The reader's refusal as the search's. (An accepted reading has none, and is not asked for one.)
-fn unread(r: Reading) -> Searched
-    ensures { λ s. ⌜ s ≡ asUnread r ⌝ }
+// A check's refusal as the search's. (A check that is fine has none, and is not asked for one.)
+fn refused(c: Checked) -> Searched
+    ensures { λ s. ⌜ s ≡ asRefused c ⌝ }
 {
-    match r {
-        Reading::Accepted(_, _, _) => Searched::Refused(0, 0),
-        Reading::Refused(number, detail) => Searched::Refused(number, detail),
-    }
-}
-
-// The request's refusal as the search's. (A request that is fine has none, and is not asked for one.)
-fn refused(a: Asked) -> Searched
-    ensures { λ s. ⌜ s ≡ asRefused a ⌝ }
-{
-    match a {
-        Asked::Fine => Searched::Refused(0, 0),
-        Asked::Refused(number, detail) => Searched::Refused(number, detail),
+    match c {
+        Checked::Fine => Searched::Refused(0, 0),
+        Checked::Refused(number, detail) => Searched::Refused(number, detail),
     }
 }
 

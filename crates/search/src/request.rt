@@ -1,11 +1,8 @@
 // What is asked of the numbers of a request and of the lent memory.
+use refusals::Checked;
+use refusals::lent;
+use refusals::range;
 ghost use Rattle.search.specs.Request.{AskedIs};
-
-// Nothing against it, or a refusal with its number and detail.
-pub enum Asked {
-    Fine,
-    Refused(usize, usize),
-}
 
 // The first refusal of the request's numbers, then of the lengths of the list and the table, for a loop of n operations.
 pub fn first_refusal(
@@ -15,32 +12,24 @@ pub fn first_refusal(
     budget: usize,
     list: usize,
     rows: usize,
-) -> Asked
+) -> Checked
     ensures { λ r. ⌜ AskedIs n cap horizon budget list rows r ⌝ }
 {
-    if cap < 1 {
-        return Asked::Refused(7, 1);
-    }
-    if 4096 < cap {
-        return Asked::Refused(7, 1);
-    }
-    if horizon < 1 {
-        return Asked::Refused(7, 2);
-    }
-    if 4096 < horizon {
-        return Asked::Refused(7, 2);
-    }
-    if budget < 1 {
-        return Asked::Refused(7, 3);
-    }
-    if 1000000 < budget {
-        return Asked::Refused(7, 3);
-    }
-    if list < n {
-        return Asked::Refused(20, list);
-    }
-    if rows < 4096 {
-        return Asked::Refused(20, rows);
-    }
-    Asked::Fine
+    let by_cap = range(1, 4096, cap);
+    let Checked::Fine = by_cap else {
+        return by_cap;
+    };
+    let by_horizon = range(2, 4096, horizon);
+    let Checked::Fine = by_horizon else {
+        return by_horizon;
+    };
+    let by_budget = range(3, 1000000, budget);
+    let Checked::Fine = by_budget else {
+        return by_budget;
+    };
+    let by_list = lent(n, list);
+    let Checked::Fine = by_list else {
+        return by_list;
+    };
+    lent(4096, rows)
 }

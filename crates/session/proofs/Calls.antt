@@ -27,7 +27,7 @@ use Rattle.session.specs.View.{setupOf, stateOf, fileOf, Valid, Stepped,
 use Rattle.session.specs.Undo.{Run, stop, next, Demand3}
 use Rattle.session.specs.declared.Session.{Session}
 use Rattle.board.specs.declared.Reply.{Reply}
-use Rattle.board.specs.declared.Checked.the-variants as checked
+use Rattle.refusals.specs.declared.Checked.the-variants as checked
 use Rattle.board.proofs.Readings.{starts-length, seats-are}
 use Rattle.board.proofs.Boards.{few-operations}
 

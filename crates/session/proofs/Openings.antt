@@ -8,13 +8,13 @@ use native.Mathlib.Omega.{arith}
 use borrow.Author.Tests.{ltb-false}
 use lib.ListN.{length, take, drop, replicate, length-replicate, length-append, length-drop}
 use lib.Seq.{take-at}
-use Rattle.model.specs.Refusals.{Refusal, firstRefusal, Answer, answered, refused, settled}
+use Rattle.model.specs.Refusals.{Refusal, firstRefusal, Answer, answered, refused, settled, Check, range, lent}
 use Rattle.model.specs.Loop.{size}
 use Rattle.model.specs.File.{loopOf, Accepted, fileChecks}
 use Rattle.model.specs.Session.{Setup, Starts, openChecks, openFile, openRows, start}
 use Rattle.model.proofs.File.{layout}
 use Rattle.model.proofs.Lists.{getD-filled}
-use Rattle.model.proofs.Checks.{passes-left, passes-head, passes-tail, at-most, at-least}
+use Rattle.model.proofs.Checks.{passes-left, passes-right, passes-head, passes-tail, at-most, at-least}
 use Rattle.model.proofs.Legality.{legal-nothing}
 use Rattle.model.proofs.Table.{table-nil, cells-nothing}
 use Rattle.reservation.specs.Seats.{seatOf, seats}
@@ -22,9 +22,8 @@ use Rattle.reservation.proofs.Stores.{cleared, cleared-length}
 use Rattle.board.specs.Board.{startsOf, setupAs, Board}
 use Rattle.session.specs.View.{fileOf, stateOf, blank, Valid, closedSession, Opened}
 use Rattle.session.specs.declared.Session.{Session}
-use Rattle.board.specs.declared.Checked.the-variants as checked
+use Rattle.refusals.specs.declared.Checked.the-variants as checked
 use Rattle.board.proofs.Boards.{few-operations}
-use Rattle.board.proofs.Refusals.{numbers, open-later}
 
 -- ---- an empty array
 
@@ -37,6 +36,10 @@ blank-starts (suc n) (suc m) h = ap (λ (t : Starts). none ∷ t) (blank-starts 
 -- ---- the answers
 
 module _ (f : List ℕ) (ii h : ℕ) (rows : List ℕ) where
+  -- the checks after the reader's
+  abbrev numbers : List Check
+  numbers = range 1 4096 ii ∷ range 2 4096 h ∷ lent ii (length rows) ∷ []
+
   -- a refusal is not an answer
   both : {X : Type 0} {u : Setup} {x : Refusal} → openFile f ii h (length rows) ≡ answered u → openFile f ii h (length rows) ≡ refused x → X
   both p q = let y : _≡_ {A = ℕ} 0 1 = cc in absurd (omega arith)
@@ -58,13 +61,14 @@ module _ (f : List ℕ) (ii h : ℕ) (rows : List ℕ) where
     -- what the checks tell
     pub open-accepted : Accepted f
     unfolding openChecks
-    open-accepted = passes-left (fileChecks f) (numbers f ii h (length rows)) e
+    open-accepted = passes-left (fileChecks f) numbers e
 
     pub open-short : length f ≤ 1690
     open-short = layout f open-accepted .short
 
-    numbers-pass : firstRefusal (numbers f ii h (length rows)) ≡ none
-    numbers-pass = sym (open-later f ii h (length rows) open-accepted) ∙ e
+    numbers-pass : firstRefusal numbers ≡ none
+    unfolding openChecks
+    numbers-pass = passes-right (fileChecks f) numbers e
 
     pub open-some : 1 ≤ ii
     open-some = at-least 4096 ii (passes-head _ _ numbers-pass)

@@ -15,7 +15,7 @@ use Rattle.board.specs.Moves.{replyOf}
 use Rattle.session.specs.View.{setupOf, stateOf, Valid, Stepped, Opened}
 use Rattle.session.specs.declared.Session.{Session}
 use Rattle.board.specs.declared.Reply.{Reply}
-use Rattle.board.specs.declared.Checked.the-variants as checked
+use Rattle.refusals.specs.declared.Checked.the-variants as checked
 
 -- calls one after the other, each on the session and the rows that the one before left, with their answers
 pub data Run : Session → List ℕ → List Call → List (Answer model.Reply) → Session → List ℕ → Type 0 where

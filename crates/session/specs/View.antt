@@ -12,8 +12,8 @@ use Rattle.board.specs.Moves.{replyOf}
 use Rattle.session.specs.declared.OpStarts as starts
 use Rattle.session.specs.declared.Session.{Session}
 use Rattle.board.specs.declared.Reply.{Reply}
-use Rattle.board.specs.declared.Checked.{Checked}
-use Rattle.board.specs.declared.Checked.the-variants as checked
+use Rattle.refusals.specs.declared.Checked.{Checked}
+use Rattle.refusals.specs.declared.Checked.the-variants as checked
 
 -- ---- what it says in the model
 

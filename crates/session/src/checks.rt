@@ -1,21 +1,12 @@
 // What opening is refused for, in document 01's order.
-use board::Checked;
 use loop_file::Reading;
+use refusals::Checked;
+use refusals::lent;
+use refusals::range;
 ghost use mathlib.Core.Path.{_≡_};
 ghost use Rattle.model.specs.Refusals.{firstRefusal};
 ghost use Rattle.model.specs.Session.{openChecks};
-ghost use Rattle.board.specs.Checks.{refusalOf};
-ghost use Rattle.session.specs.Checks.{asUnread};
-
-// The reader's refusal as that of opening. (An accepted reading has none, and is not asked for one.)
-fn unread(r: Reading) -> Checked
-    ensures { λ c. ⌜ c ≡ asUnread r ⌝ }
-{
-    match r {
-        Reading::Accepted(_, _, _) => Checked::Refused(0, 0),
-        Reading::Refused(number, detail) => Checked::Refused(number, detail),
-    }
-}
+ghost use Rattle.refusals.specs.Checked.{refusalOf};
 
 // Opening with any file and numbers, and a table of so many rows.
 pub fn openable(file: &[u8], interval: usize, horizon: usize, rows: usize) -> Checked
@@ -23,22 +14,15 @@ pub fn openable(file: &[u8], interval: usize, horizon: usize, rows: usize) -> Ch
 {
     let reading = loop_file::read(file);
     let Reading::Accepted(_, _, _) = reading else {
-        return unread(reading);
+        return loop_file::unread(reading);
     };
-    if interval < 1 {
-        return Checked::Refused(7, 1);
-    }
-    if 4096 < interval {
-        return Checked::Refused(7, 1);
-    }
-    if horizon < 1 {
-        return Checked::Refused(7, 2);
-    }
-    if 4096 < horizon {
-        return Checked::Refused(7, 2);
-    }
-    if rows < interval {
-        return Checked::Refused(20, rows);
-    }
-    Checked::Fine
+    let by_interval = range(1, 4096, interval);
+    let Checked::Fine = by_interval else {
+        return by_interval;
+    };
+    let by_horizon = range(2, 4096, horizon);
+    let Checked::Fine = by_horizon else {
+        return by_horizon;
+    };
+    lent(interval, rows)
 }

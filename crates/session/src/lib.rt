@@ -3,9 +3,9 @@
 mod checks;
 mod store;
 
-pub use board::Checked;
 pub use board::Reply;
 use board::moves;
+pub use refusals::Checked;
 use reservation::clear::clear_rows;
 ghost use mathlib.Core.Path.{_≡_};
 ghost use Rattle.model.specs.Session as model;

@@ -14,29 +14,13 @@ use Rattle.model.specs.Loop.{Loop, size}
 use Rattle.model.specs.File.{fileChecks, loopOf, Accepted}
 use Rattle.model.specs.Legality.{placed, meets, legal}
 use Rattle.model.specs.Table.{countOf, cellsOf}
-use Rattle.model.specs.Verifier.{Verdict, isLegal, proposalChecks, verdict, verifyFile}
+use Rattle.model.specs.Verifier.{Verdict, isLegal, proposedChecks, verdict, verifyFile}
 use Rattle.model.proofs.Lists.{or-false-left, or-false-right, any-row, none-first}
 use Rattle.model.proofs.Checks.{passes-left, passes-right, passes-head, passes-tail, refusal-append, not-found}
 use Rattle.model.proofs.File.{accepted-ok}
 use Rattle.model.proofs.Verifier.{verdict-legal, legal-verdict, legal-once, once-legal}
 use Rattle.verifier.specs.Walk.{oneEach, Proposal}
-use Rattle.verifier.proofs.Proposals.{passes}
-
--- a proposal that passes its checks is one
-pub passes-asked : (l : Loop) (ii : ℕ) (xs : List ℕ) → firstRefusal (proposalChecks l ii xs) ≡ none → Proposal l ii xs
-unfolding proposalChecks
-passes-asked l ii xs e = record {
-  some = ltb-false ii 1 (or-false-left (ltb ii 1) (ltb 4096 ii) interval);
-  short = ltb-false 4096 ii (or-false-right (ltb ii 1) (ltb 4096 ii) interval);
-  all = ltb-false (length xs) (size l) (passes-head _ _ (passes-tail _ _ e));
-  early = λ o h. leb-false 4096 (getD xs o 0) (any-row late 0 (size l) o (none-first late (upFrom 0 (size l)) (not-found 15 _ (passes-head _ _ (passes-tail _ _ (passes-tail _ _ e))))) (omega arith) (omega arith));
-}
-  where
-    late : ℕ → Bool
-    late o = leb 4096 (getD xs o 0)
-
-    interval : (ltb ii 1 || ltb 4096 ii) ≡ false
-    interval = passes-head _ _ e
+use Rattle.verifier.proofs.Proposals.{all-pass, pass-file, pass-asked}
 
 -- an answer that is no refusal
 settled-answer : (o : Option Refusal) (v w : Verdict) → settled o v ≡ answered w → (o ≡ none) × (v ≡ w)
@@ -57,17 +41,13 @@ module _ (f : List ℕ) (ii : ℕ) (xs : List ℕ) where
   pub says-legal : verifyFile f ii xs ≡ answered isLegal → IsLegal
   unfolding verifyFile
   says-legal e =
-      let s = settled-answer (firstRefusal (fileChecks f ++ proposalChecks (loopOf f) ii xs)) (verdict (loopOf f) ii starts) isLegal e in
-      record {
-        file = passes-left (fileChecks f) (proposalChecks (loopOf f) ii xs) (s .0);
-        asked = passes-asked (loopOf f) ii xs (passes-right (fileChecks f) (proposalChecks (loopOf f) ii xs) (s .0));
-        list = verdict-legal (loopOf f) ii starts (s .1);
-      }
+      let s = settled-answer (firstRefusal (proposedChecks f ii xs)) (verdict (loopOf f) ii starts) isLegal e in
+      record { file = pass-file f ii xs (s .0); asked = pass-asked f ii xs (s .0); list = verdict-legal (loopOf f) ii starts (s .1) }
 
   pub legal-said : IsLegal → verifyFile f ii xs ≡ answered isLegal
   unfolding verifyFile
   legal-said h =
-      ap (λ (o : Option Refusal). settled o (verdict (loopOf f) ii starts)) (refusal-append (fileChecks f) (proposalChecks (loopOf f) ii xs) (h .file) ∙ passes (loopOf f) ii xs (h .asked))
+      ap (λ (o : Option Refusal). settled o (verdict (loopOf f) ii starts)) (all-pass f ii xs (h .file) (h .asked))
       ∙ ap (λ (v : Verdict). answered v) (legal-verdict (loopOf f) ii starts (h .list))
 
   -- the list by its table: no cell is taken twice, and every dependence holds

@@ -3,8 +3,8 @@ use mathlib.Core.Option.{Option, none, some}
 use Prim.Native.Nat.{ℕ}
 use Rattle.model.specs.Refusals.{Answer, answered, refused}
 use Rattle.model.specs.Verifier as model
-use Rattle.loop_file.specs.declared.Reading.{Reading}
-use Rattle.loop_file.specs.declared.Reading.the-variants as reading
+use Rattle.refusals.specs.declared.Checked.{Checked}
+use Rattle.refusals.specs.declared.Checked.the-variants as checked
 use Rattle.verifier.specs.declared.Verdict.{Verdict}
 use Rattle.verifier.specs.declared.Verdict.the-variants as verdict
 use Rattle.reservation.specs.declared.Broken.{Broken}
@@ -19,10 +19,10 @@ verdictOf (verdict.Broken e) = answered (model.breach e)
 verdictOf (verdict.Conflict a b) = answered (model.clash a b)
 verdictOf (verdict.Refused n d) = refused (record { number = n; detail = d })
 
--- the reader's refusal as the verifier's
-abbrev pub asVerdict : Reading → Verdict
-asVerdict (reading.Accepted a b c) = verdict.Refused 0 0
-asVerdict (reading.Refused n d) = verdict.Refused n d
+-- a check's refusal as the verifier's
+abbrev pub asRefused : Checked → Verdict
+asRefused checked.Fine = verdict.Refused 0 0
+asRefused (checked.Refused n d) = verdict.Refused n d
 
 -- a broken dependence, and a pair that conflicts, as a verdict; legal where there is none
 abbrev pub asBroken : Broken → Verdict

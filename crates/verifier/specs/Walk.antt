@@ -9,10 +9,6 @@ use Rattle.model.specs.Lists.{upFrom, first}
 use Rattle.model.specs.Loop.{Use, Op, Loop, size}
 use Rattle.reservation.specs.Overlaps.{coversCell}
 
--- the first of n starts that is not below 4,096, n where there is none
-unfoldable pub firstLate : List ℕ → ℕ → ℕ
-firstLate xs n = Option·getD (first (λ o. leb 4096 (getD xs o 0)) (upFrom 0 n)) n
-
 -- the starts that count: the first ones, one for each operation
 abbrev pub oneEach : Loop → List ℕ → List ℕ
 oneEach l xs = take (size l) xs

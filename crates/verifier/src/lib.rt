@@ -2,13 +2,18 @@
 mod walk;
 
 use loop_file::Reading;
+use refusals::Checked;
+use refusals::lent;
+use refusals::range;
 use reservation::Broken;
 use walk::Pair;
 ghost use mathlib.Core.Path.{_≡_};
 ghost use Prim.Native.Nat.{_≤_};
 ghost use lib.ListN.{length};
-ghost use Rattle.model.specs.Verifier.{verifyFile};
-ghost use Rattle.verifier.specs.Answer.{verdictOf, asVerdict, asBroken, asConflict};
+ghost use Rattle.model.specs.Refusals.{firstRefusal};
+ghost use Rattle.model.specs.Verifier.{proposedChecks, verifyFile};
+ghost use Rattle.refusals.specs.Checked.{refusalOf};
+ghost use Rattle.verifier.specs.Answer.{verdictOf, asRefused, asBroken, asConflict};
 
 // Legal; the number of a broken dependence; the two operations of a conflict; or a refusal with its number and detail.
 pub enum Verdict {
@@ -22,23 +27,10 @@ pub enum Verdict {
 pub fn verify(file: &[u8], interval: usize, starts: &[u16]) -> Verdict
     ensures { λ r. ⌜ verdictOf r ≡ verifyFile (now (file .entry)) interval (now (starts .entry)) ⌝ }
 {
-    let reading = loop_file::read(file);
-    let Reading::Accepted(n, _, _) = reading else {
-        return passed_on(reading);
+    let checked = proposed(file, interval, starts);
+    let Checked::Fine = checked else {
+        return refused(checked);
     };
-    if interval < 1 {
-        return Verdict::Refused(7, 1);
-    }
-    if 4096 < interval {
-        return Verdict::Refused(7, 1);
-    }
-    if starts.len() < n {
-        return Verdict::Refused(20, starts.len());
-    }
-    let late = walk::first_late(starts, n);
-    if late < n {
-        return Verdict::Refused(15, late);
-    }
     let dependence = walk::first_broken(file, interval, starts);
     let Broken::Nothing = dependence else {
         return broken(dependence);
@@ -50,13 +42,32 @@ pub fn verify(file: &[u8], interval: usize, starts: &[u16]) -> Verdict
     Verdict::Legal
 }
 
-// The reader's refusal as the verifier's. (An accepted reading has none, and is not asked for one.)
-fn passed_on(r: Reading) -> Verdict
-    ensures { λ v. ⌜ v ≡ asVerdict r ⌝ }
+// What any file, interval and list are refused for.
+fn proposed(file: &[u8], interval: usize, starts: &[u16]) -> Checked
+    ensures { λ r. ⌜ refusalOf r ≡ firstRefusal (proposedChecks (now (file .entry)) interval (now (starts .entry))) ⌝ }
 {
-    match r {
-        Reading::Accepted(_, _, _) => Verdict::Refused(0, 0),
-        Reading::Refused(number, detail) => Verdict::Refused(number, detail),
+    let reading = loop_file::read(file);
+    let Reading::Accepted(n, _, _) = reading else {
+        return loop_file::unread(reading);
+    };
+    let by_interval = range(1, 4096, interval);
+    let Checked::Fine = by_interval else {
+        return by_interval;
+    };
+    let by_list = lent(n, starts.len());
+    let Checked::Fine = by_list else {
+        return by_list;
+    };
+    walk::first_late(starts, n)
+}
+
+// A check's refusal as the verifier's. (A check that is fine has none, and is not asked for one.)
+fn refused(c: Checked) -> Verdict
+    ensures { λ v. ⌜ v ≡ asRefused c ⌝ }
+{
+    match c {
+        Checked::Fine => Verdict::Refused(0, 0),
+        Checked::Refused(number, detail) => Verdict::Refused(number, detail),
     }
 }
 

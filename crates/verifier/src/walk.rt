@@ -8,18 +8,22 @@ use loop_access::slot;
 use loop_access::source;
 use loop_access::target;
 use loop_access::use_count;
+use refusals::Checked;
 use reservation::Broken;
 use reservation::deps::dep_holds;
 use reservation::pairs::covers;
 ghost use mathlib.Core.Path.{_≡_};
+ghost use mathlib.Core.List.{[], _∷_};
 ghost use Prim.Native.Nat.{_<_, _≤_};
 ghost use lib.ListN.{length, getD};
+ghost use Rattle.model.specs.Refusals.{firstRefusal};
 ghost use Rattle.model.specs.Loop.{noUse, size, opAt, allUses};
 ghost use Rattle.model.specs.File.{loopOf, Accepted};
 ghost use Rattle.reservation.specs.Seats.{brokenOf};
-ghost use Rattle.model.specs.Verifier.{firstBroken, firstPair};
+ghost use Rattle.model.specs.Verifier.{lateStart, firstBroken, firstPair};
+ghost use Rattle.refusals.specs.Checked.{refusalOf};
 ghost use Rattle.verifier.specs.Answer.{pairOf};
-ghost use Rattle.verifier.specs.Walk.{oneEach, meetsAt, firstLate, Proposal};
+ghost use Rattle.verifier.specs.Walk.{oneEach, meetsAt, Proposal};
 
 // No pair conflicts, or the first pair that does.
 pub enum Pair {
@@ -27,19 +31,19 @@ pub enum Pair {
     At(usize, usize),
 }
 
-// The first of n starts that is not below 4,096, n where there is none.
-pub fn first_late(starts: &[u16], n: usize) -> usize
+// The first of n starts that is not below 4,096 is refused.
+pub fn first_late(starts: &[u16], n: usize) -> Checked
     requires { ⌜ n ≤ length (now starts) ⌝ }
-    ensures { λ r. ⌜ r ≡ firstLate (now (starts .entry)) n ⌝ }
+    ensures { λ r. ⌜ refusalOf r ≡ firstRefusal (lateStart (now (starts .entry)) n ∷ []) ⌝ }
 {
     let mut o = 0;
     while o < n {
         if 4096 <= starts[o] {
-            return o;
+            return Checked::Refused(15, o);
         }
         o = o + 1;
     }
-    n
+    Checked::Fine
 }
 
 // The first dependence that the starts break.

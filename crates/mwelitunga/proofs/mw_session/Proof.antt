@@ -4,7 +4,7 @@ use mathlib.Core.Option.{none}
 use native.Mathlib.Omega.{arith}
 use lib.ListN.{length}
 use Rattle.model.specs.Refusals.{firstRefusal}
-use Rattle.board.specs.Checks.{refusalOf}
+use Rattle.refusals.specs.Checked.{refusalOf}
 use Rattle.session.proofs.Calls.{from-open, ran}
 use Rattle.replay.specs.Replay.{callChecks}
 use Rattle.replay.proofs.Replays.{fit-room, opened-is, calls-refused, opening-refused, all-made}

@@ -8,7 +8,7 @@ use borrow.Author.Needs.{needs}
 use lib.ListN.{length}
 use Rattle.model.specs.Lists.{upFrom}
 use Rattle.model.specs.Refusals.{firstRefusal}
-use Rattle.board.specs.Checks.{refusalOf}
+use Rattle.refusals.specs.Checked.{refusalOf}
 use Rattle.replay.specs.Replay.{callCount, kindCheck}
 use Rattle.replay.proofs.Replays.{unfit-kind, unfit-cut, unfit-room, fit}
 use Rattle.replay.proofs.unfit.Statement.{statement}

@@ -3,6 +3,7 @@ use mathlib.Core.Path.{sym, ap, _∙_}
 use native.Mathlib.Omega.{arith}
 use Rattle.loop_file.specs.Read.{readingOf}
 use Rattle.loop_file.proofs.Answers.{IsAccepted, read-accepted}
+use Rattle.search.specs.Answer.{asRefused}
 use Rattle.search.proofs.Requests.{Passes, by-file, by-request, all-pass, by-lower, passed, by-attempt}
 use Rattle.search.proofs.search.Statement.{statement}
 use Rattle.search.proofs.search.Tie as tie
@@ -19,8 +20,13 @@ enum-told c = omega arith
 unread-requires : tie.Need-unread-requires
 unread-requires c κs = omega arith
 
+refused-requires : tie.Need-refused-requires
+refused-requires c κs = omega arith
+
 returns : tie.Need-returns
-returns c = by-file (c .before .before .before .read .ensures) (c .before .enum-told .given .1) (c .unread .ensures)
+returns c =
+    let u = c .before .before in
+    by-file (u .before .before .read .ensures) (u .enum-told .given .1) (c .refused .ensures ∙ ap asRefused (c .before .unread .ensures))
 
 -- ---- once the file is accepted
 
@@ -41,11 +47,11 @@ enum-told-2 c = omega arith
 enum-told-3 : tie.Need-enum-told-3
 enum-told-3 c = omega arith
 
-refused-requires : tie.Need-refused-requires
-refused-requires c κs = omega arith
+refused-requires-2 : tie.Need-refused-requires-2
+refused-requires-2 c κs = omega arith
 
 returns-2 : tie.Need-returns-2
-returns-2 c = let a = c .before .before .before in by-request (known (a .before)) (a .first-refusal .ensures) (c .before .enum-told3 .given .1) (c .refused .ensures)
+returns-2 c = let a = c .before .before .before in by-request (known (a .before)) (a .first-refusal .ensures) (c .before .enum-told3 .given .1) (c .refused2 .ensures)
 
 -- ---- once the request passes
 
@@ -99,11 +105,12 @@ search-spec =
     enum-known-reading
     enum-told
     unread-requires
+    refused-requires
     returns
     first-refusal-requires
     enum-told-2
     enum-told-3
-    refused-requires
+    refused-requires-2
     returns-2
     lower-requires
     enum-known-lower

@@ -6,7 +6,7 @@ use native.Mathlib.Omega.{arith}
 use lib.ListN.{length, replicate, length-replicate}
 use Rattle.model.specs.Refusals.{firstRefusal}
 use Rattle.model.specs.Session.{openChecks}
-use Rattle.board.specs.Checks.{refusalOf}
+use Rattle.refusals.specs.Checked.{refusalOf}
 use Rattle.session.specs.View.{blank, closedSession}
 use Rattle.session.specs.declared.Session.{Session}
 use Rattle.session.proofs.Openings.{open-refused, open-short, open-some, open-room, open-done}

@@ -9,7 +9,8 @@ use Rattle.model.specs.Legality.{firstBreach}
 use Rattle.model.specs.File.{loopOf}
 use Rattle.model.proofs.File.{accepted-ok}
 use Rattle.reservation.specs.Seats.{seats, brokenOf}
-use Rattle.board.specs.Checks.{refusalOf}
+use Rattle.refusals.specs.Checked.{refusalOf}
+use Rattle.board.specs.Checks.{asUnmet}
 use Rattle.board.proofs.Refusals.{common, known-inside, known-near, force-early, force-broken, force-clash, force-fine}
 use Rattle.board.proofs.checks.forceable.Statement.{statement}
 use Rattle.board.proofs.checks.forceable.Tie as tie
@@ -47,8 +48,14 @@ first-broken-requires c κs =
     let p = start k .pre in
     (p .0, omega (arith, known-near (a .file .now) (a .horizon) (a .op) (a .start) (a .starts .now) (known-is (c .before)), p .1 .far), p .1 .short, rw (length-replicate {A = ℕ} 64 65535) (accepted-ok (a .file .now) (p .0) .few))
 
-enum-known-broken : tie.Need-enum-known-broken
-enum-known-broken c = omega arith
+enum-told-3 : tie.Need-enum-told-3
+enum-told-3 c = omega arith
+
+enum-told-4 : tie.Need-enum-told-4
+enum-told-4 c = omega arith
+
+unmet-requires : tie.Need-unmet-requires
+unmet-requires c κs = omega arith
 
 returns-2 : tie.Need-returns-2
 returns-2 c =
@@ -56,10 +63,8 @@ returns-2 c =
     let w = b .before .before in
     let t = w .before .before in
     let a = start (t .before .before) .args in
-    sym (force-broken (a .file .now) (a .interval) (a .horizon) (a .starts .now) (a .op) (a .start) (known-is t) 64 _ (sym (w .first-broken .ensures) ∙ ap brokenOf (b .broken .given .1)))
-
-enum-told-3 : tie.Need-enum-told-3
-enum-told-3 c = omega arith
+    ap refusalOf (c .unmet .ensures ∙ ap asUnmet (b .enum-told4 .given .1))
+    ∙ sym (force-broken (a .file .now) (a .interval) (a .horizon) (a .starts .now) (a .op) (a .start) (known-is t) 64 _ (sym (w .first-broken .ensures) ∙ ap brokenOf (b .enum-told4 .given .1)))
 
 -- no dependence of the operation with itself is broken
 held-is : (c : tie.After-enum-told3) → let a = start (c .before .before .before .before .before .before) .args in firstBreach (loopOf (a .file .now)) (a .interval) (seats (replicate 64 65535)) (a .op) (a .start) ≡ none
@@ -98,9 +103,10 @@ forceable-spec =
     returns
     slice-aggregate-first-broken
     first-broken-requires
-    enum-known-broken
-    returns-2
     enum-told-3
+    enum-told-4
+    unmet-requires
+    returns-2
     too-long-requires
     returns-3
     returns-4)

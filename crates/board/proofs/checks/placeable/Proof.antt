@@ -8,7 +8,8 @@ use Rattle.model.specs.File.{loopOf}
 use Rattle.model.proofs.File.{accepted-ok}
 use Rattle.reservation.specs.Seats.{seats, brokenOf}
 use Rattle.reservation.proofs.TakenCells.{free-place, taken-place}
-use Rattle.board.specs.Checks.{refusalOf}
+use Rattle.refusals.specs.Checked.{refusalOf}
+use Rattle.board.specs.Checks.{asUnmet}
 use Rattle.board.proofs.Refusals.{common, known-inside, known-near, place-early, place-broken, place-clash, place-fine}
 use Rattle.board.proofs.checks.placeable.Statement.{statement}
 use Rattle.board.proofs.checks.placeable.Tie as tie
@@ -43,8 +44,14 @@ first-broken-requires c κs =
     let p = start k .pre in
     (p .accepted, omega (arith, known-near (a .file .now) (a .horizon) (a .op) (a .start) (a .starts .now) (known-is (c .before)), p .numbers .far), p .numbers .short, omega (arith, accepted-ok (a .file .now) (p .accepted) .few, p .sane .whole))
 
-enum-known-broken : tie.Need-enum-known-broken
-enum-known-broken c = omega arith
+enum-told-3 : tie.Need-enum-told-3
+enum-told-3 c = omega arith
+
+enum-told-4 : tie.Need-enum-told-4
+enum-told-4 c = omega arith
+
+unmet-requires : tie.Need-unmet-requires
+unmet-requires c κs = omega arith
 
 returns-2 : tie.Need-returns-2
 returns-2 c =
@@ -53,10 +60,8 @@ returns-2 c =
     let t = w .before .before in
     let k = t .before .before in
     let a = start k .args in
-    sym (place-broken (a .file .now) (a .interval) (a .horizon) (a .starts .now) (a .rows .now) (start k .pre) (a .op) (a .start) (known-is t) _ (sym (w .first-broken .ensures) ∙ ap brokenOf (b .broken .given .1)))
-
-enum-told-3 : tie.Need-enum-told-3
-enum-told-3 c = omega arith
+    ap refusalOf (c .unmet .ensures ∙ ap asUnmet (b .enum-told4 .given .1))
+    ∙ sym (place-broken (a .file .now) (a .interval) (a .horizon) (a .starts .now) (a .rows .now) (start k .pre) (a .op) (a .start) (known-is t) _ (sym (w .first-broken .ensures) ∙ ap brokenOf (b .enum-told4 .given .1)))
 
 -- no dependence is broken
 held-is : (c : tie.After-enum-told3) → let a = start (c .before .before .before .before .before .before) .args in firstBreach (loopOf (a .file .now)) (a .interval) (seats (a .starts .now)) (a .op) (a .start) ≡ none
@@ -77,11 +82,11 @@ conflict-requires c κs =
     let p = start k .pre in
     (p .accepted, known-inside (a .file .now) (a .horizon) (a .op) (a .start) (a .starts .now) (known-is t), omega (arith, known-near (a .file .now) (a .horizon) (a .op) (a .start) (a .starts .now) (known-is t), p .numbers .far), p .numbers .some, p .numbers .short, p .held .long, c .first-use .ensures)
 
-enum-told-4 : tie.Need-enum-told-4
-enum-told-4 c = omega arith
-
 enum-told-5 : tie.Need-enum-told-5
 enum-told-5 c = omega arith
+
+enum-told-6 : tie.Need-enum-told-6
+enum-told-6 c = omega arith
 
 returns-3 : tie.Need-returns-3
 returns-3 c =
@@ -90,7 +95,7 @@ returns-3 c =
     let t = h .before .before .before .before in
     let k = t .before .before in
     let a = start k .args in
-    sym (place-clash (a .file .now) (a .interval) (a .horizon) (a .starts .now) (a .rows .now) (start k .pre) (a .op) (a .start) (known-is t) (held-is h) (taken-place (f .conflict .result) _ _ _ (f .conflict .ensures) (c .enum-told5 .given .1)))
+    sym (place-clash (a .file .now) (a .interval) (a .horizon) (a .starts .now) (a .rows .now) (start k .pre) (a .op) (a .start) (known-is t) (held-is h) (taken-place (f .conflict .result) _ _ _ (f .conflict .ensures) (c .enum-told6 .given .1)))
 
 returns-4 : tie.Need-returns-4
 returns-4 c =
@@ -99,7 +104,7 @@ returns-4 c =
     let t = h .before .before .before .before in
     let k = t .before .before in
     let a = start k .args in
-    sym (place-fine (a .file .now) (a .interval) (a .horizon) (a .starts .now) (a .rows .now) (start k .pre) (a .op) (a .start) (known-is t) (held-is h) (free-place (f .conflict .result) _ (f .conflict .ensures) (c .enum-told4 .given .1)))
+    sym (place-fine (a .file .now) (a .interval) (a .horizon) (a .starts .now) (a .rows .now) (start k .pre) (a .op) (a .start) (known-is t) (held-is h) (free-place (f .conflict .result) _ (f .conflict .ensures) (c .enum-told5 .given .1)))
 
 pub placeable-spec : {M : Type 1} → statement M
 placeable-spec =
@@ -110,12 +115,13 @@ placeable-spec =
     enum-told-2
     returns
     first-broken-requires
-    enum-known-broken
-    returns-2
     enum-told-3
+    enum-told-4
+    unmet-requires
+    returns-2
     first-use-requires
     conflict-requires
-    enum-told-4
     enum-told-5
+    enum-told-6
     returns-3
     returns-4)

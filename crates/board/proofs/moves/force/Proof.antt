@@ -4,15 +4,14 @@ use mathlib.Core.List.{List}
 use mathlib.Core.Option.{none}
 use Prim.Native.Nat.{ℕ, _<_}
 use native.Mathlib.Omega.{arith}
-use borrow.Author.Needs.{needs}
 use lib.ListN.{take}
 use lib.Seq.{length-take-le}
 use Rattle.model.specs.Refusals.{firstRefusal}
 use Rattle.model.specs.Session.{checks, force}
 use Rattle.board.specs.Board.{setupAs, bare}
-use Rattle.board.specs.Checks.{refusalOf}
+use Rattle.refusals.specs.Checked.{refusalOf}
 use Rattle.board.proofs.Boards.{board-far}
-use Rattle.board.proofs.Effects.{did-refused}
+use Rattle.board.proofs.Effects.{did-passed}
 use Rattle.board.proofs.Obstacles.{force-inside, force-open, force-near, force-free, force-fits, did-force}
 use Rattle.board.proofs.moves.force.Statement.{statement}
 use Rattle.board.proofs.moves.force.Tie as tie
@@ -32,17 +31,20 @@ start c = c .before .before .before .before .before
 abbrev file : tie.Start → List ℕ
 file s = take (s .args .length-) (s .args .store .now)
 
-enum-known-checked : tie.Need-enum-known-checked
-enum-known-checked c = search needs
+enum-told : tie.Need-enum-told
+enum-told c = omega arith
+
+enum-told-2 : tie.Need-enum-told-2
+enum-told-2 c = omega arith
+
+passed-on-requires : tie.Need-passed-on-requires
+passed-on-requires c κs = omega arith
 
 returns : tie.Need-returns
 returns c =
     let k = c .before .before .before in
     let s = start k in
-    did-refused (s .pre .1) (force (s .args .op) (s .args .start)) _ _ (sym (k .forceable .ensures) ∙ ap refusalOf (c .before .checked .given .1))
-
-enum-told : tie.Need-enum-told
-enum-told c = search needs
+    did-passed (s .pre .1) (force (s .args .op) (s .args .start)) (k .forceable .ensures) (c .before .enum-told2 .given .1) (c .passed-on .ensures)
 
 -- nothing is against it
 fine : (c : tie.After-enum-told) → let s = start (c .before .before) in
@@ -77,7 +79,7 @@ put-requires c κs =
     (l .board, force-inside b o t (fine e), force-free b o t (fine e) l, near e, force-fits b o t (fine e) l)
 
 same-length : tie.Need-same-length
-same-length c = search needs
+same-length c = omega arith
 
 returns-2 : tie.Need-returns-2
 returns-2 c =
@@ -93,9 +95,10 @@ force-spec =
     (tie.spec
     slice-aggregate-file
     forceable-requires
-    enum-known-checked
-    returns
     enum-told
+    enum-told-2
+    passed-on-requires
+    returns
     displace-requires
     put-requires
     same-length

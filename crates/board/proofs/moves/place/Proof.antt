@@ -9,9 +9,9 @@ use lib.Seq.{length-take-le}
 use Rattle.model.specs.Refusals.{firstRefusal}
 use Rattle.model.specs.Session.{checks, place}
 use Rattle.board.specs.Board.{setupAs, bare}
-use Rattle.board.specs.Checks.{refusalOf}
+use Rattle.refusals.specs.Checked.{refusalOf}
 use Rattle.board.proofs.Boards.{board-far}
-use Rattle.board.proofs.Effects.{blank-is, did-refused, place-inside, place-open, place-near, place-fits, did-place}
+use Rattle.board.proofs.Effects.{blank-is, did-passed, place-inside, place-open, place-near, place-fits, did-place}
 use Rattle.board.proofs.moves.place.Statement.{statement}
 use Rattle.board.proofs.moves.place.Tie as tie
 
@@ -28,8 +28,14 @@ start c = c .before .before .before .before .before .before
 abbrev file : tie.Start → List ℕ
 file s = take (s .args .length-) (s .args .store .now)
 
-enum-known-checked : tie.Need-enum-known-checked
-enum-known-checked c = omega arith
+enum-told : tie.Need-enum-told
+enum-told c = omega arith
+
+enum-told-2 : tie.Need-enum-told-2
+enum-told-2 c = omega arith
+
+passed-on-requires : tie.Need-passed-on-requires
+passed-on-requires c κs = omega arith
 
 same-length : tie.Need-same-length
 same-length c = omega arith
@@ -38,10 +44,7 @@ returns : tie.Need-returns
 returns c =
     let k = c .before .before .before in
     let s = start k in
-    did-refused (s .pre .1) (place (s .args .op) (s .args .start)) _ _ (sym (k .placeable .ensures) ∙ ap refusalOf (c .before .checked .given .1))
-
-enum-told : tie.Need-enum-told
-enum-told c = omega arith
+    did-passed (s .pre .1) (place (s .args .op) (s .args .start)) (k .placeable .ensures) (c .before .enum-told2 .given .1) (c .passed-on .ensures)
 
 -- nothing is against it
 fine : (c : tie.After-enum-told) → let s = start (c .before .before) in
@@ -73,10 +76,11 @@ place-spec =
     (tie.spec
     slice-aggregate-file
     placeable-requires
-    enum-known-checked
+    enum-told
+    enum-told-2
+    passed-on-requires
     same-length
     returns
-    enum-told
     put-requires
     same-length-2
     returns-2)

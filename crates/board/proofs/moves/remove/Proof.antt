@@ -3,14 +3,14 @@ use mathlib.Core.Path.{_≡_, sym, ap, _∙_}
 use mathlib.Core.List.{List}
 use mathlib.Core.Option.{none}
 use Prim.Native.Nat.{ℕ}
-use borrow.Author.Needs.{needs}
+use native.Mathlib.Omega.{arith}
 use lib.ListN.{take}
 use lib.Seq.{length-take-le}
 use Rattle.model.specs.Refusals.{firstRefusal}
 use Rattle.model.specs.Session.{checks, remove}
 use Rattle.board.specs.Board.{setupAs, bare}
-use Rattle.board.specs.Checks.{refusalOf}
-use Rattle.board.proofs.Effects.{did-refused, remove-inside, remove-placed, did-remove}
+use Rattle.refusals.specs.Checked.{refusalOf}
+use Rattle.board.proofs.Effects.{did-passed, remove-inside, remove-placed, did-remove}
 use Rattle.board.proofs.moves.remove.Statement.{statement}
 use Rattle.board.proofs.moves.remove.Tie as tie
 
@@ -27,17 +27,20 @@ start c = c .before .before .before .before .before
 abbrev file : tie.Start → List ℕ
 file s = take (s .args .length-) (s .args .store .now)
 
-enum-known-checked : tie.Need-enum-known-checked
-enum-known-checked c = search needs
+enum-told : tie.Need-enum-told
+enum-told c = omega arith
+
+enum-told-2 : tie.Need-enum-told-2
+enum-told-2 c = omega arith
+
+passed-on-requires : tie.Need-passed-on-requires
+passed-on-requires c κs = omega arith
 
 returns : tie.Need-returns
 returns c h b =
     let k = c .before .before .before in
     let s = start k in
-    did-refused b (remove (s .args .op)) _ _ (sym (k .removable .ensures) ∙ ap refusalOf (c .before .checked .given .1))
-
-enum-told : tie.Need-enum-told
-enum-told c = search needs
+    did-passed b (remove (s .args .op)) (k .removable .ensures) (c .before .enum-told2 .given .1) (c .passed-on .ensures)
 
 -- nothing is against it
 fine : (c : tie.After-enum-told) → let s = start (c .before .before) in
@@ -52,7 +55,7 @@ lift-requires c κs =
     (b, remove-inside b (s .args .op) (fine e), remove-placed b (s .args .op) (fine e))
 
 same-length : tie.Need-same-length
-same-length c = search needs
+same-length c = omega arith
 
 returns-2 : tie.Need-returns-2
 returns-2 c h b =
@@ -62,4 +65,4 @@ returns-2 c h b =
     did-remove b (s .args .op) (fine e) (u .lift .ensures)
 
 pub remove-spec : {M : Type 1} → statement M
-remove-spec = tie.close (tie.spec slice-aggregate-file removable-requires enum-known-checked returns enum-told lift-requires same-length returns-2)
+remove-spec = tie.close (tie.spec slice-aggregate-file removable-requires enum-told enum-told-2 passed-on-requires returns lift-requires same-length returns-2)
