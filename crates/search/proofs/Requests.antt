@@ -17,9 +17,9 @@ use Rattle.loop_file.specs.Read.{refusal, readingOf, counted}
 use Rattle.loop_file.specs.declared.Reading.{Reading}
 use Rattle.loop_file.specs.declared.Reading.the-variants as reading
 use Rattle.loop_file.proofs.Answers.{IsAccepted, read-refused}
-use Rattle.bounds.specs.Answer.{boundsOf}
-use Rattle.bounds.specs.declared.LowerBounds.{LowerBounds}
-use Rattle.bounds.specs.declared.LowerBounds.the-variants as lower
+use Rattle.lower_bounds.specs.Answer.{boundsOf}
+use Rattle.lower_bounds.specs.declared.LowerBounds.{LowerBounds}
+use Rattle.lower_bounds.specs.declared.LowerBounds.the-variants as lower
 use Rattle.search.specs.Request.{refusalOf, AskedIs}
 use Rattle.search.specs.Answer.{asUnread, asRefused, asUnbounded, Searches, Passed, Attempted}
 use Rattle.search.specs.declared.request.Asked.{Asked}

@@ -10,8 +10,8 @@ use Rattle.model.specs.Bounds.{Lower}
 use Rattle.model.specs.Search.{Outcome, found, ended, sweep, intervals, SearchIs, listAfter, rowsAfter}
 use Rattle.loop_file.specs.declared.Reading.{Reading}
 use Rattle.loop_file.specs.declared.Reading.the-variants as reading
-use Rattle.bounds.specs.declared.LowerBounds.{LowerBounds}
-use Rattle.bounds.specs.declared.LowerBounds.the-variants as lower
+use Rattle.lower_bounds.specs.declared.LowerBounds.{LowerBounds}
+use Rattle.lower_bounds.specs.declared.LowerBounds.the-variants as lower
 use Rattle.search.specs.declared.request.Asked.{Asked}
 use Rattle.search.specs.declared.request.Asked.the-variants as asked
 use Rattle.search.specs.declared.Searched.{Searched}

@@ -15,8 +15,8 @@ use Rattle.model.specs.File.{loopOf}
 use Rattle.model.proofs.File.{accepted-ok}
 use Rattle.model.proofs.Machine.{is-fits, is-cast, is-back, is-got}
 use Rattle.model.proofs.Signed.{Is, is-pos, is-negsuc, is-add, is-subtract, is-eq, le-of, parts}
-use Rattle.bounds.proofs.recurrence.relax.Statement.{statement}
-use Rattle.bounds.proofs.recurrence.relax.Tie as tie
+use Rattle.lower_bounds.proofs.recurrence.relax.Statement.{statement}
+use Rattle.lower_bounds.proofs.recurrence.relax.Tie as tie
 
 -- the loop and its dependence are in range
 loop-ok : (s : tie.Start) → LoopOk (loopOf (s .args .file .now))

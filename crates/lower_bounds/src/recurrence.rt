@@ -6,15 +6,14 @@ use loop_access::distance;
 use loop_access::op_count;
 use loop_access::source;
 use loop_access::target;
-ghost use mathlib.Core.Path.{_≡_};
 ghost use Prim.Native.Nat.{_*_, _<_, _≤_};
 ghost use lib.IntN.{pos, _+ℤ_, _-ℤ_};
 ghost use lib.ListN.{length, getD};
 ghost use lib.Signed.{mag};
 ghost use Rattle.model.specs.Loop.{size, depAt};
 ghost use Rattle.model.specs.File.{loopOf, Accepted};
-ghost use Rattle.bounds.specs.Rounds.{Raised, SmallIn, Rounded};
-ghost use Rattle.bounds.specs.Walks.{Decides, RecurrenceIs};
+ghost use Rattle.lower_bounds.specs.Rounds.{Raised, SmallIn, Rounded};
+ghost use Rattle.lower_bounds.specs.Walks.{Decides, RecurrenceIs};
 
 // x[at] becomes the larger of itself and v; whether it rose.
 fn raise(x: &mut [i32; 64], at: usize, v: i32) -> bool

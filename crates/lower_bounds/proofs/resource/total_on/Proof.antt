@@ -10,9 +10,9 @@ use Rattle.model.specs.Loop.{allUses}
 use Rattle.model.specs.File.{loopOf}
 use Rattle.model.proofs.File.{accepted-ok}
 use Rattle.model.proofs.Loop.{all-ok, all-few}
-use Rattle.bounds.proofs.AllUses.{totalTo, total-all, total-on, total-off, total-most}
-use Rattle.bounds.proofs.resource.total_on.Statement.{statement}
-use Rattle.bounds.proofs.resource.total_on.Tie as tie
+use Rattle.lower_bounds.proofs.AllUses.{totalTo, total-all, total-on, total-off, total-most}
+use Rattle.lower_bounds.proofs.resource.total_on.Statement.{statement}
+use Rattle.lower_bounds.proofs.resource.total_on.Tie as tie
 
 abbrev Inv-loop : tie.InvT-loop
 Inv-loop file s n sum₀ u₀ sum u = (u ≤ n) × (sum ≡ totalTo (loopOf file) s u)

@@ -5,9 +5,9 @@ use borrow.Author.Tests.{not-true, not-false}
 use Rattle.model.specs.Loop.{LoopOk}
 use Rattle.model.specs.File.{loopOf}
 use Rattle.model.proofs.File.{accepted-ok}
-use Rattle.bounds.proofs.Bisection.{Between, top-no, top-yes, half-yes, half-no, between-found}
-use Rattle.bounds.proofs.recurrence.recurrence.Statement.{statement}
-use Rattle.bounds.proofs.recurrence.recurrence.Tie as tie
+use Rattle.lower_bounds.proofs.Bisection.{Between, top-no, top-yes, half-yes, half-no, between-found}
+use Rattle.lower_bounds.proofs.recurrence.recurrence.Statement.{statement}
+use Rattle.lower_bounds.proofs.recurrence.recurrence.Tie as tie
 
 abbrev Inv-loop : tie.InvT-loop
 Inv-loop file lo₀ hi₀ lo hi = Between (loopOf file) lo hi

@@ -8,8 +8,8 @@ use Rattle.model.specs.Lists.{upFrom, maxOf}
 use Rattle.model.specs.File.{loopOf}
 use Rattle.model.specs.Bounds.{totalOn, resourceBound}
 use Rattle.model.proofs.Sums.{max-next}
-use Rattle.bounds.proofs.resource.resource.Statement.{statement}
-use Rattle.bounds.proofs.resource.resource.Tie as tie
+use Rattle.lower_bounds.proofs.resource.resource.Statement.{statement}
+use Rattle.lower_bounds.proofs.resource.resource.Tie as tie
 
 abbrev Inv-loop : tie.InvT-loop
 Inv-loop file most₀ s₀ most s = (1 ≤ s) × (s ≤ 25) × (most ≡ max 1 (maxOf (totalOn (loopOf file)) (upFrom 1 (s - 1))))

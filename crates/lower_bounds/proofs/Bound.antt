@@ -15,9 +15,9 @@ use Rattle.model.specs.Bounds.{Feasible, RecurrenceBound, Goes, Closed, delayOf
 use Rattle.model.specs.Integers.{ceilDiv}
 use Rattle.model.proofs.Signed.{Is, is-pos, of-lt, lt-of, plus-le}
 use Rattle.model.proofs.Bounds.{Inside, light, refutes, stuck-never, plusOf, minusOf, delay-parts}
-use Rattle.bounds.specs.Walks.{Refuted}
-use Rattle.bounds.specs.Quotient.{quotientUp}
-use Rattle.bounds.proofs.Trail.{decide}
+use Rattle.lower_bounds.specs.Walks.{Refuted}
+use Rattle.lower_bounds.specs.Quotient.{quotientUp}
+use Rattle.lower_bounds.proofs.Trail.{decide}
 
 -- a quotient, from what it multiplies out to
 below : (b n d : ℕ) → 0 < d → n ≤ b * d → ceilDiv n d ≤ b

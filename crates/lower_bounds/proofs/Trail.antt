@@ -17,10 +17,10 @@ use Rattle.model.specs.Bounds.{Goes, distanceOf, Feasible}
 use Rattle.model.specs.Integers.{plus, minus}
 use Rattle.model.proofs.Signed.{is-pos, of-lt}
 use Rattle.model.proofs.Bounds.{Met, each-met, plusOf, minusOf, delay-parts}
-use Rattle.bounds.specs.Walks.{Refuted}
-use Rattle.bounds.proofs.Hole.{Twice, pigeonhole}
-use Rattle.bounds.specs.Rounds.{needed, relax, relaxTo, round, rounds}
-use Rattle.bounds.proofs.Rounds.{MeetsAll, AllWithin, relax-met, relax-unmet, set-up, rounds-length, still-met}
+use Rattle.lower_bounds.specs.Walks.{Refuted}
+use Rattle.lower_bounds.proofs.Hole.{Twice, pigeonhole}
+use Rattle.lower_bounds.specs.Rounds.{needed, relax, relaxTo, round, rounds}
+use Rattle.lower_bounds.proofs.Rounds.{MeetsAll, AllWithin, relax-met, relax-unmet, set-up, rounds-length, still-met}
 
 -- one more in front
 abbrev before : ℕ → (ℕ → ℕ) → ℕ → ℕ

@@ -10,7 +10,7 @@ use Rattle.model.specs.Loop.{Loop, size, LoopOk}
 use Rattle.model.specs.Legality.{placed, meets, apart, legalAt, legal}
 use Rattle.model.specs.Bounds.{resourceBound, RecurrenceBound}
 use Rattle.model.proofs.Lists.{and-left}
-use Rattle.bounds.proofs.Slots.{resource-needed}
+use Rattle.lower_bounds.proofs.Slots.{resource-needed}
 
 -- what is legal meets the dependences, so its interval is at least the recurrence bound
 pub recurrence-needed : (l : Loop) (ii b : ℕ) (xs : List ℕ) → 1 ≤ ii → length xs ≡ size l → legal l ii xs ≡ true → RecurrenceBound l b → b ≤ ii

@@ -11,8 +11,8 @@ use lib.ListN.{length, getD, set, replicate}
 use lib.Seq.{getD-set-same, getD-set-other}
 use Rattle.model.specs.Loop.{Dep, Loop, depAt}
 use Rattle.model.proofs.Signed.{plus-le}
-use Rattle.bounds.specs.Rounds.{needed, relax, relaxTo, round, rounds, AtMost}
-use Rattle.bounds.proofs.Rounds.{AllWithin, relaxTo-length, rounds-length}
+use Rattle.lower_bounds.specs.Rounds.{needed, relax, relaxTo, round, rounds, AtMost}
+use Rattle.lower_bounds.proofs.Rounds.{AllWithin, relaxTo-length, rounds-length}
 
 pub zeros : (n i : ℕ) → _≡_ {A = ℕ} (getD (replicate n 0) i 0) 0
 zeros zero i = refl

@@ -4,8 +4,8 @@ use Prim.Native.Nat.{ℕ}
 use native.Mathlib.Omega.{arith}
 use Rattle.model.specs.Refusals.{answered}
 use Rattle.model.specs.Bounds.{cyclic, within}
-use Rattle.bounds.proofs.lower.Statement.{statement}
-use Rattle.bounds.proofs.lower.Tie as tie
+use Rattle.lower_bounds.proofs.lower.Statement.{statement}
+use Rattle.lower_bounds.proofs.lower.Tie as tie
 
 recurrence-requires : tie.Need-recurrence-requires
 recurrence-requires c κs = c .before .pre

@@ -11,8 +11,8 @@ use mir.Val.{toZ, ofZ}
 use mir.ValLaws.{toZ-ofZ}
 use Rattle.model.proofs.Signed.{max-left, max-right}
 use Rattle.model.proofs.Machine.{lt-plain}
-use Rattle.bounds.proofs.recurrence.raise.Statement.{statement}
-use Rattle.bounds.proofs.recurrence.raise.Tie as tie
+use Rattle.lower_bounds.proofs.recurrence.raise.Statement.{statement}
+use Rattle.lower_bounds.proofs.recurrence.raise.Tie as tie
 
 mul-old : tie.Need-mul-old
 mul-old c = omega arith

@@ -22,7 +22,7 @@ use Rattle.model.proofs.Table.{count-cell-same, count-cell-slot, count-cell-row
 use Rattle.model.proofs.Conflicts.{apart-once}
 use Rattle.model.proofs.StartLists.{placed-in}
 use Rattle.model.proofs.Sums.{sum-swap, sum-next, sum-most, max-most}
-use Rattle.bounds.proofs.AllUses.{onSlot}
+use Rattle.lower_bounds.proofs.AllUses.{onSlot}
 
 -- ---- one use
 

@@ -13,13 +13,13 @@ use lib.ListN.{length, take, replicate}
 use Rattle.model.specs.Loop.{Loop, size, LoopOk}
 use Rattle.model.specs.Bounds.{Feasible, Stuck}
 use Rattle.model.proofs.Bounds.{each-met, feasible-more, refutes}
-use Rattle.bounds.specs.Rounds.{rounds, metTo, Holds, SmallIn, Rounded}
-use Rattle.bounds.specs.Walks.{Refuted, Decides, RecurrenceIs}
-use Rattle.bounds.proofs.Rounds.{MeetsAll, rounds-length, still-met}
-use Rattle.bounds.proofs.Trail.{last-round}
-use Rattle.bounds.proofs.Values.{rounds-below}
-use Rattle.bounds.proofs.Arrays.{holds-nats, metTo-meets, meets-metTo}
-use Rattle.bounds.proofs.Bound.{ever}
+use Rattle.lower_bounds.specs.Rounds.{rounds, metTo, Holds, SmallIn, Rounded}
+use Rattle.lower_bounds.specs.Walks.{Refuted, Decides, RecurrenceIs}
+use Rattle.lower_bounds.proofs.Rounds.{MeetsAll, rounds-length, still-met}
+use Rattle.lower_bounds.proofs.Trail.{last-round}
+use Rattle.lower_bounds.proofs.Values.{rounds-below}
+use Rattle.lower_bounds.proofs.Arrays.{holds-nats, metTo-meets, meets-metTo}
+use Rattle.lower_bounds.proofs.Bound.{ever}
 
 -- nothing follows from a test that both succeeds and fails
 never : {X : Type 0} → _≡_ {A = Bool} true false → X

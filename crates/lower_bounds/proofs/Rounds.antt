@@ -15,7 +15,7 @@ use Rattle.model.specs.Loop.{Dep, Loop, depAt, DepOk}
 use Rattle.model.specs.Integers.{plus, minus, maxℤ}
 use Rattle.model.proofs.Signed.{Is, by-test, is-pos, is-add, is-subtract, is-eq, lt-as, parts, max-left, max-right}
 use Rattle.model.proofs.Bounds.{Met}
-use Rattle.bounds.specs.Rounds.{needed, relax, relaxTo, round, rounds}
+use Rattle.lower_bounds.specs.Rounds.{needed, relax, relaxTo, round, rounds}
 
 -- the starts xs meet every dependence at ii
 abbrev pub MeetsAll : Loop → ℕ → List ℕ → Type 0

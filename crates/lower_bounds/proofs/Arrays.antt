@@ -17,9 +17,9 @@ use Rattle.model.specs.Loop.{Dep, Loop, size, depAt, DepOk, LoopOk}
 use Rattle.model.proofs.Lists.{and-left, and-right}
 use Rattle.model.proofs.Signed.{by-test, is-pos, is-add, is-subtract, lt-as, parts}
 use Rattle.model.proofs.Bounds.{Met}
-use Rattle.bounds.specs.Rounds.{needed, relax, relaxTo, metb, metTo, Holds, nats, Raised, SmallIn}
-use Rattle.bounds.proofs.Rounds.{relax-int, relaxTo-met, relaxTo-next}
-use Rattle.bounds.proofs.Values.{to-below}
+use Rattle.lower_bounds.specs.Rounds.{needed, relax, relaxTo, metb, metTo, Holds, nats, Raised, SmallIn}
+use Rattle.lower_bounds.proofs.Rounds.{relax-int, relaxTo-met, relaxTo-next}
+use Rattle.lower_bounds.proofs.Values.{to-below}
 
 plus-pos : (xs : List ℕ) → map plus (map pos xs) ≡ xs
 plus-pos [] = refl

@@ -8,11 +8,11 @@ use lib.ListN.{length}
 use Rattle.model.specs.Loop.{LoopOk, size}
 use Rattle.model.specs.File.{loopOf}
 use Rattle.model.proofs.File.{accepted-ok}
-use Rattle.bounds.specs.Rounds.{relaxTo, round, metTo, Holds, nats}
-use Rattle.bounds.proofs.Rounds.{relaxTo-none}
-use Rattle.bounds.proofs.Arrays.{turn, turn-small}
-use Rattle.bounds.proofs.recurrence.round.Statement.{statement}
-use Rattle.bounds.proofs.recurrence.round.Tie as tie
+use Rattle.lower_bounds.specs.Rounds.{relaxTo, round, metTo, Holds, nats}
+use Rattle.lower_bounds.proofs.Rounds.{relaxTo-none}
+use Rattle.lower_bounds.proofs.Arrays.{turn, turn-small}
+use Rattle.lower_bounds.proofs.recurrence.round.Statement.{statement}
+use Rattle.lower_bounds.proofs.recurrence.round.Tie as tie
 
 abbrev Inv-loop : tie.InvT-loop
 Inv-loop file x₀ interval m changed₀ e₀ x changed e =

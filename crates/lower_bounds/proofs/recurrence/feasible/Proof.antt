@@ -9,11 +9,11 @@ use borrow.Author.Tests.{not-true, not-false}
 use Rattle.model.specs.Loop.{LoopOk, size}
 use Rattle.model.specs.File.{loopOf}
 use Rattle.model.proofs.File.{accepted-ok}
-use Rattle.bounds.specs.Rounds.{rounds, Holds}
-use Rattle.bounds.specs.Walks.{Refuted}
-use Rattle.bounds.proofs.Bisection.{zeros-hold, round-small, round-calm, round-more}
-use Rattle.bounds.proofs.recurrence.feasible.Statement.{statement}
-use Rattle.bounds.proofs.recurrence.feasible.Tie as tie
+use Rattle.lower_bounds.specs.Rounds.{rounds, Holds}
+use Rattle.lower_bounds.specs.Walks.{Refuted}
+use Rattle.lower_bounds.proofs.Bisection.{zeros-hold, round-small, round-calm, round-more}
+use Rattle.lower_bounds.proofs.recurrence.feasible.Statement.{statement}
+use Rattle.lower_bounds.proofs.recurrence.feasible.Tie as tie
 
 abbrev Inv-loop : tie.InvT-loop
 Inv-loop file interval n x₀ r₀ x r =
