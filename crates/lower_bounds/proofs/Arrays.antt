@@ -2,12 +2,12 @@
 use mathlib.Core.Path.{_≡_, refl, sym, ap, _∙_}
 use mathlib.Core.Bool.{Bool, true, false, not, _&&_, _||_}
 use mathlib.Core.List.{List, [], _∷_, map}
-use Prim.Native.Nat.{ℕ, zero, suc, _+_, _-_, _*_, _≤_, _<_, max}
+use Prim.Native.Nat.{ℕ, zero, suc, _+_, _*_, _≤_, _<_, max}
 use native.Mathlib.Decide.{ℕ-discrete}
 use native.Mathlib.Numerals.{add-one}
 use native.Mathlib.Omega.{arith}
 use lib.Dec.{leb, ltb, ltb→lt, nltb→le}
-use lib.IntN.{ℤ, pos, _+ℤ_, _-ℤ_}
+use lib.IntN.{ℤ, pos}
 use lib.ListN.{length, getD, set, List·getD-map}
 use lib.Seq.{getD-take, take-set-lt}
 use lib.Signed.{ltZ, mag}
@@ -17,7 +17,7 @@ use Rattle.model.specs.Loop.{Dep, Loop, size, depAt, DepOk, LoopOk}
 use Rattle.model.proofs.Lists.{and-left, and-right}
 use Rattle.model.proofs.Signed.{by-test, is-pos, is-add, is-subtract, lt-as, parts}
 use Rattle.model.proofs.Bounds.{Met}
-use Rattle.lower_bounds.specs.Rounds.{needed, relax, relaxTo, metb, metTo, Holds, nats, Raised, SmallIn}
+use Rattle.lower_bounds.specs.Rounds.{needed, relax, relaxTo, metb, metTo, Holds, nats, neededℤ, Relaxed, SmallIn}
 use Rattle.lower_bounds.proofs.Rounds.{relax-int, relaxTo-met, relaxTo-next}
 use Rattle.lower_bounds.proofs.Values.{to-below}
 
@@ -41,7 +41,7 @@ holds-set {n} {x} {xs} h i v l = record { same = take-set-lt n x i (pos v) l ∙
 
 -- a step of the array is one of the values
 pub holds-relax : {n : ℕ} {x : List ℤ} {xs : List ℕ} → Holds n x xs → (ii : ℕ) (d : Dep) → DepOk n d
-    → Holds n (set x (d .dst) (maxℤ (getD x (d .dst) (pos 0)) (getD x (d .src) (pos 0) +ℤ d .delay -ℤ pos (ii * d .distance)))) (relax ii d xs)
+    → Holds n (set x (d .dst) (maxℤ (getD x (d .dst) (pos 0)) (neededℤ ii x d))) (relax ii d xs)
 unfolding relax
 holds-relax {n} {x} {xs} h ii d w =
     rw (holds-read h (d .dst) (w .target), holds-read h (d .src) (w .source), relax-int (getD xs (d .dst) 0) (getD xs (d .src) 0) (ii * d .distance) (d .delay))
@@ -56,7 +56,7 @@ ltb-leb a b = by-test (ltb a b)
 
 -- whether the array's step changed a value
 pub holds-test : {n : ℕ} {x : List ℤ} {xs : List ℕ} → Holds n x xs → (ii : ℕ) (d : Dep) → DepOk n d
-    → ltZ (getD x (d .dst) (pos 0)) (getD x (d .src) (pos 0) +ℤ d .delay -ℤ pos (ii * d .distance)) ≡ not (metb ii xs d)
+    → ltZ (getD x (d .dst) (pos 0)) (neededℤ ii x d) ≡ not (metb ii xs d)
 holds-test {n} {x} {xs} h ii d w =
     let a : ℕ = getD xs (d .dst) 0 in
     let b : ℕ = getD xs (d .src) 0 in
@@ -105,10 +105,10 @@ module _ (L : Loop) (ok : LoopOk L) (ii : ℕ) (e : ℕ) (known : e < length (L 
   -- the values are those of one dependence more, and whether one changed is kept
   pub turn : (xs : List ℕ) (x x′ : List ℤ) (changed rose : Bool)
       → Holds (size L) x (relaxTo L ii e xs) → changed ≡ not (metTo L ii e xs)
-      → Raised x x′ (depAt L e .dst) (getD x (depAt L e .src) (pos 0) +ℤ depAt L e .delay -ℤ pos (ii * depAt L e .distance)) rose
+      → Relaxed L ii e x x′ rose
       → Holds (size L) x′ (relaxTo L ii (e + 1) xs) × ((changed || rose) ≡ not (metTo L ii (e + 1) xs))
   turn xs x x′ changed rose h p r =
       rw (add-one e) (
-        rw (relaxTo-next L ii e xs, r .after) (holds-relax h ii (depAt L e) (ok .dep-ok e known)),
-        changed-next L ii e xs changed rose p (r .test ∙ holds-test h ii (depAt L e) (ok .dep-ok e known)),
+        rw (relaxTo-next L ii e xs, r .raised .after) (holds-relax h ii (depAt L e) (ok .dep-ok e known)),
+        changed-next L ii e xs changed rose p (r .raised .test ∙ holds-test h ii (depAt L e) (ok .dep-ok e known)),
       )

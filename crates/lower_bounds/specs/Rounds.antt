@@ -4,7 +4,7 @@ use mathlib.Core.Bool.{Bool, true, not, _&&_}
 use mathlib.Core.List.{List, map}
 use Prim.Native.Nat.{ℕ, zero, suc, _+_, _-_, _*_, _≤_, max}
 use lib.Dec.{leb}
-use lib.IntN.{ℤ, pos}
+use lib.IntN.{ℤ, pos, _+ℤ_, _-ℤ_}
 use lib.ListN.{length, getD, set, take, replicate}
 use lib.Signed.{ltZ}
 use Rattle.model.specs.Integers.{plus, minus, maxℤ}
@@ -61,6 +61,15 @@ AtMost xs top = (i : ℕ) → getD xs i 0 ≤ top
 pub record Raised (x x′ : List ℤ) (at : ℕ) (v : ℤ) (rose : Bool) : Type 0 where
   pub after : x′ ≡ set x at (maxℤ (getD x at (pos 0)) v)
   pub test : rose ≡ ltZ (getD x at (pos 0)) v
+
+-- what d asks of its target's path length at ii, given its source's
+abbrev pub neededℤ : ℕ → List ℤ → Dep → ℤ
+neededℤ ii x d = getD x (d .src) (pos 0) +ℤ d .delay -ℤ pos (ii * d .distance)
+
+-- dependence e relaxed at ii
+pub record Relaxed (l : Loop) (ii e : ℕ) (x x′ : List ℤ) (rose : Bool) : Type 0 where
+  -- its target's path length is raised to what it asks, the others stay; `rose` says whether that was more than it had
+  pub raised : Raised x x′ (depAt l e .dst) (neededℤ ii x (depAt l e)) rose
 
 -- the array holds naturals up to top
 pub record SmallIn (n top : ℕ) (x : List ℤ) : Type 0 where

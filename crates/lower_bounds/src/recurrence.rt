@@ -6,13 +6,13 @@ use loop_access::distance;
 use loop_access::op_count;
 use loop_access::source;
 use loop_access::target;
-ghost use Prim.Native.Nat.{_*_, _<_, _≤_};
-ghost use lib.IntN.{pos, _+ℤ_, _-ℤ_};
+ghost use Prim.Native.Nat.{_<_, _≤_};
+ghost use lib.IntN.{pos};
 ghost use lib.ListN.{length, getD};
 ghost use lib.Signed.{mag};
 ghost use Rattle.model.specs.Loop.{size, depAt};
 ghost use Rattle.model.specs.File.{loopOf, Accepted};
-ghost use Rattle.lower_bounds.specs.Rounds.{Raised, SmallIn, Rounded};
+ghost use Rattle.lower_bounds.specs.Rounds.{Raised, Relaxed, SmallIn, Rounded};
 ghost use Rattle.lower_bounds.specs.Walks.{Decides, RecurrenceIs};
 
 // x[at] becomes the larger of itself and v; whether it rose.
@@ -31,7 +31,7 @@ fn raise(x: &mut [i32; 64], at: usize, v: i32) -> bool
 // Dependence e: its target's path length becomes at least its source's + delay - interval * distance; whether it rose.
 fn relax(file: &[u8], x: &mut [i32; 64], e: usize, interval: usize) -> bool
     requires { ⌜ Accepted (now file) × (e < length (loopOf (now file) .deps)) × (interval ≤ 4096) × (mag (getD (now x) (depAt (loopOf (now file)) e .src) (pos 0)) < 16777216) ⌝ }
-    ensures { λ r. ⌜ Raised (now (x .entry)) (now (x .exit)) (depAt (loopOf (now (file .entry))) e .dst) (getD (now (x .entry)) (depAt (loopOf (now (file .entry))) e .src) (pos 0) +ℤ depAt (loopOf (now (file .entry))) e .delay -ℤ pos (interval * depAt (loopOf (now (file .entry))) e .distance)) r ⌝ }
+    ensures { λ r. ⌜ Relaxed (loopOf (now (file .entry))) interval e (now (x .entry)) (now (x .exit)) r ⌝ }
 {
     let from = source(file, e);
     let to = target(file, e);

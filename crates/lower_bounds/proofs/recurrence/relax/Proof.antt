@@ -111,7 +111,7 @@ returns c =
     let u = t .before .before in
     let e : toZ w32 (ofZ w32 (toZ w32 (ofZ w32 (sum t)) -ℤ toZ w32 (lag u))) ≡ from u +ℤ dep (start u) .delay -ℤ pos (lag u) =
     is-eq (is-back w32 (sub-v t) (less-is t)) (is-subtract (is-add (parts (from u)) (parts (dep (start u) .delay))) (is-pos (lag u))) (omega arith) in
-    rw (← u .before .before .source .ensures, ← u .before .target .ensures, ← u .distance .ensures) (rw e at (c .raise .ensures))
+    record { raised = rw (← u .before .before .source .ensures, ← u .before .target .ensures, ← u .distance .ensures) (rw e at (c .raise .ensures)) }
 
 pub relax-spec : {M : Type 1} → statement M
 relax-spec =
