@@ -1,4 +1,1 @@
-pub mod Walks
-pub mod Quotient
-pub mod Rounds
 pub mod Answer

@@ -5,8 +5,8 @@ use Prim.Native.Nat.{ℕ}
 use Rattle.model.specs.Refusals.{Answer}
 use Rattle.model.specs.Bounds.{BoundsIs}
 use Rattle.model.specs.File.{loopOf}
-use Rattle.bounds.specs.declared.LowerBounds.{LowerBounds}
-use Rattle.bounds.specs.Answer.{boundsOf}
+use Rattle.lower_bounds.specs.declared.LowerBounds.{LowerBounds}
+use Rattle.lower_bounds.specs.Answer.{boundsOf}
 use Rattle.search.specs.declared.Searched.{Searched}
 use Rattle.search.specs.Answer.{answerOf, Searches}
 use Rattle.replay.specs.Words.{written, numberOf, wordsOf, Gives}

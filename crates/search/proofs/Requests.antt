@@ -16,9 +16,9 @@ use Rattle.loop_file.specs.Read.{refusal, readingOf, counted}
 use Rattle.loop_file.specs.declared.Reading.{Reading}
 use Rattle.loop_file.specs.declared.Reading.the-variants as reading
 use Rattle.loop_file.proofs.Answers.{IsAccepted, read-refused}
-use Rattle.bounds.specs.Answer.{boundsOf}
-use Rattle.bounds.specs.declared.LowerBounds.{LowerBounds}
-use Rattle.bounds.specs.declared.LowerBounds.the-variants as lower
+use Rattle.lower_bounds.specs.Answer.{boundsOf}
+use Rattle.lower_bounds.specs.declared.LowerBounds.{LowerBounds}
+use Rattle.lower_bounds.specs.declared.LowerBounds.the-variants as lower
 use Rattle.refusals.specs.Checked.{refusalOf}
 use Rattle.refusals.specs.declared.Checked.{Checked}
 use Rattle.refusals.specs.declared.Checked.the-variants as checked

@@ -16,7 +16,7 @@ use Rattle.model.specs.Legality.{legal}
 use Rattle.model.specs.Bounds.{resourceBound, RecurrenceBound, Lower, LowerIs, cyclic, beyond, within}
 use Rattle.model.specs.Search.{answer, notAfter, probes, stageCount, Request, Schedule, Outcome, found, ended, intervals, tryInterval, sweep}
 use Rattle.model.proofs.Lists.{upFrom-split, sum-append}
-use Rattle.bounds.proofs.Necessity.{bounds-needed}
+use Rattle.lower_bounds.proofs.Necessity.{bounds-needed}
 use Rattle.descent.proofs.Words.{after-both, answer-is, answer-first, answer-none}
 use Rattle.search.specs.Demand2.{Listed, NoneAt, spentBelow, ten, eleven, larger, FoundIs, TenIs, ElevenIs}
 

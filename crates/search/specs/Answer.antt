@@ -10,8 +10,8 @@ use Rattle.model.specs.Bounds.{Lower}
 use Rattle.model.specs.Search.{Outcome, found, ended, sweep, intervals, SearchIs, listAfter, rowsAfter}
 use Rattle.refusals.specs.declared.Checked.{Checked}
 use Rattle.refusals.specs.declared.Checked.the-variants as checked
-use Rattle.bounds.specs.declared.LowerBounds.{LowerBounds}
-use Rattle.bounds.specs.declared.LowerBounds.the-variants as lower
+use Rattle.lower_bounds.specs.declared.LowerBounds.{LowerBounds}
+use Rattle.lower_bounds.specs.declared.LowerBounds.the-variants as lower
 use Rattle.search.specs.declared.Searched.{Searched}
 use Rattle.search.specs.declared.Searched.the-variants as searched
 

@@ -4,8 +4,8 @@ mod memory;
 mod request;
 mod sweep;
 
-use bounds::LowerBounds;
 use loop_file::Reading;
+use lower_bounds::LowerBounds;
 use refusals::Checked;
 ghost use mathlib.Core.Path.{_≡_};
 ghost use Rattle.search.specs.Answer.{asRefused, asUnbounded, Searches};
@@ -45,7 +45,7 @@ pub fn search(
     let Checked::Fine = asked else {
         return refused(asked);
     };
-    let lower = bounds::lower(file);
+    let lower = lower_bounds::lower(file);
     let LowerBounds::Found(resource, recurrence) = lower else {
         return unbounded(lower);
     };

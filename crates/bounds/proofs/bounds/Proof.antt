@@ -7,7 +7,8 @@ use Rattle.model.specs.File.{Accepted}
 use Rattle.model.specs.Bounds.{by-file, by-loop}
 use Rattle.loop_file.specs.Read.{readingOf}
 use Rattle.loop_file.proofs.Answers.{read-accepted, read-refused}
-use Rattle.bounds.specs.Answer.{boundsOf, asBounds}
+use Rattle.lower_bounds.specs.Answer.{boundsOf}
+use Rattle.bounds.specs.Answer.{asBounds}
 use Rattle.bounds.proofs.bounds.Statement.{statement}
 use Rattle.bounds.proofs.bounds.Tie as tie
 

@@ -1,0 +1,4 @@
+pub mod Walks
+pub mod Quotient
+pub mod Rounds
+pub mod Answer
