@@ -7,7 +7,7 @@ use Prim.Native.Nat.{ℕ, _≤_, _<_}
 use lib.ListN.{length, getD, set, take, drop}
 use Rattle.model.specs.Loop.{Loop, size}
 use Rattle.model.specs.File.{loopOf, Accepted}
-use Rattle.model.specs.Legality.{legalAt}
+use Rattle.model.specs.Legality.{legalAt, fitsAt}
 use Rattle.model.specs.Table.{IsTable, cellsOf}
 use Rattle.model.specs.Session.{Setup, Starts, State}
 use Rattle.reservation.specs.Seats.{seatOf, seats}
@@ -52,6 +52,14 @@ pub record Board (f : List ℕ) (ii h : ℕ) (xs rows : List ℕ) : Type 0 where
   pub numbers : Numbers ii h
   pub sane : Sane (loopOf f) ii h xs
   pub held : IsTable 2 ii (cellsOf (loopOf f) ii (seats xs)) rows
+
+-- operation o, which is not placed, fits at t
+pub record MayPut (f : List ℕ) (ii o t : ℕ) (xs rows : List ℕ) : Type 0 where
+  pub board : Board f ii 4096 xs rows
+  pub inside : o < size (loopOf f)
+  pub blank : getD xs o 65535 ≡ 65535
+  pub near : t < 4096
+  pub fits : fitsAt (loopOf f) ii (seats xs) o t ≡ true
 
 -- ---- what they leave
 

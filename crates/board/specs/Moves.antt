@@ -9,13 +9,13 @@ use lib.ListN.{length, getD, drop}
 use Rattle.model.specs.Lists.{upFrom, anyOf, sumOf}
 use Rattle.model.specs.Refusals.{Refusal, Answer, answered, refused}
 use Rattle.model.specs.Loop.{Loop, depAt, size}
-use Rattle.model.specs.File.{loopOf}
+use Rattle.model.specs.File.{loopOf, Accepted}
 use Rattle.model.specs.Legality.{Placing, touches, breaks}
 use Rattle.model.specs.Table.{IsTable, cellsOf}
 use Rattle.model.specs.Session.{Call, inTheWay, step}
 use Rattle.model.specs.Session as model
 use Rattle.reservation.specs.Seats.{seats}
-use Rattle.board.specs.Board.{startsOf, setupAs, bare, Board}
+use Rattle.board.specs.Board.{startsOf, setupAs, bare, Numbers, Sane, Board}
 use Rattle.board.specs.declared.Reply.{Reply}
 use Rattle.board.specs.declared.Reply.the-variants as reply
 
@@ -54,6 +54,17 @@ HitIs l ii o t p xs hits = (length hits ≡ 64) × ((p ≡ o → ⊥) → eqb (g
 pub record HitsAre (l : Loop) (ii o t k : ℕ) (xs hits : List ℕ) : Type 0 where
   pub whole : length hits ≡ 64
   pub at : (p : ℕ) → p < size l → (p ≡ o → ⊥) → eqb (getD hits p 0) 1 ≡ hitBy l ii (seats xs) o t k p
+
+-- what is asked to tell whether operation p is in the way of o, which is not placed, at t: that the mark of p is right
+pub record MarkKnown (f : List ℕ) (ii o t p : ℕ) (xs hits : List ℕ) : Type 0 where
+  pub accepted : Accepted f
+  pub numbers : Numbers ii 4096
+  pub sane : Sane (loopOf f) ii 4096 xs
+  pub inside : o < size (loopOf f)
+  pub inside-p : p < size (loopOf f)
+  pub near : t < 4096
+  pub blank : getD xs o 65535 ≡ 65535
+  pub hit : HitIs (loopOf f) ii o t p xs hits
 
 -- whether operation p is in the way of o at t among these starts; the horizon plays no part
 abbrev pub way : List ℕ → (ii o t : ℕ) → List ℕ → ℕ → Bool

@@ -14,7 +14,7 @@ ghost use Rattle.model.specs.Loop.{size};
 ghost use Rattle.model.specs.File.{loopOf};
 ghost use Rattle.model.specs.Legality.{fitsAt};
 ghost use Rattle.reservation.specs.Seats.{seats};
-ghost use Rattle.board.specs.Board.{Board, IsPut};
+ghost use Rattle.board.specs.Board.{Board, MayPut, IsPut};
 
 // What a call answers: done; the operations that were displaced, bit i for operation i; the number of the new checkpoint; or a refusal with its number and detail.
 pub enum Reply {
@@ -43,7 +43,7 @@ fn put(
     starts: &mut [u16; 64],
     rows: &mut [u64],
 )
-    requires { ⌜ Board (now file) interval 4096 (now starts) (now rows) × (op < size (loopOf (now file))) × (getD (now starts) op 65535 ≡ 65535) × (start < 4096) × (fitsAt (loopOf (now file)) interval (seats (now starts)) op start ≡ true) ⌝ }
+    requires { ⌜ MayPut (now file) interval op start (now starts) (now rows) ⌝ }
     ensures { λ _. ⌜ IsPut (now (file .entry)) interval op start (now (starts .entry)) (now (rows .entry)) (now (starts .exit)) (now (rows .exit)) ⌝ }
 {
     reserve(file, op, first_use(file, op), start, interval, rows);

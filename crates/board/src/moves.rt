@@ -20,7 +20,7 @@ ghost use Rattle.model.specs.File.{loopOf, Accepted};
 ghost use Rattle.model.specs.Session as model;
 ghost use Rattle.board.specs.Board.{Numbers, Named, Sane, Board, setupAs, startsOf};
 ghost use Rattle.board.specs.Checks.{asReply};
-ghost use Rattle.board.specs.Moves.{Did, Removed, HitsAre, hitBy, HitIs, Cleared, Agrees, Thinned, Restored};
+ghost use Rattle.board.specs.Moves.{Did, Removed, HitsAre, hitBy, MarkKnown, Cleared, Agrees, Thinned, Restored};
 
 // Places an operation, or says why not.
 pub fn place(
@@ -165,7 +165,7 @@ fn in_the_way(
     starts: &[u16; 64],
     hits: &[u8; 64],
 ) -> bool
-    requires { ⌜ Accepted (now file) × Numbers interval 4096 × Sane (loopOf (now file)) interval 4096 (now starts) × (op < size (loopOf (now file))) × (p < size (loopOf (now file))) × (start < 4096) × (getD (now starts) op 65535 ≡ 65535) × HitIs (loopOf (now file)) interval op start p (now starts) (now hits) ⌝ }
+    requires { ⌜ MarkKnown (now file) interval op start p (now starts) (now hits) ⌝ }
     ensures { λ r. ⌜ r ≡ model.inTheWay (setupAs (now (file .entry)) interval 0) (startsOf (size (loopOf (now (file .entry)))) (now (starts .entry))) op start p ⌝ }
 {
     let other = starts[p];

@@ -25,7 +25,7 @@ use Rattle.reservation.specs.Place.{firstTaken}
 use Rattle.reservation.proofs.Placings.{legal-digits, fits-tests, fits-conflict, reserve-place, release-uses, free-conflict, conflict-free, reserve-uses, reserve-release}
 use Rattle.descent.specs.Span.{inside, allowed, WindowIs}
 use Rattle.descent.specs.Tree.{under, treeAnswer, treeProbes, Res, broke, all, no-more, rest, run, runO}
-use Rattle.descent.specs.Descent.{tell, Wrote, Ready, Done, below, branch}
+use Rattle.descent.specs.Descent.{MayTry, tell, Wrote, Ready, Done, below, branch}
 use Rattle.descent.specs.declared.Found.{Found}
 use Rattle.descent.specs.declared.Found.the-variants.{All, Spent, Nothing}
 use Rattle.descent.proofs.Runs.{after, run-leaf, run-unfit, run-step, run-broke, run-end, run-all, run-skip}
@@ -197,10 +197,16 @@ module _ {f starts₀ rows₀ : List ℕ} {op n ii h : ℕ} (ready : Ready f sta
     module _ (from to : ℕ) (w : WindowIs (loopOf f) ii (take op starts₀) h (length (loopOf f .deps)) from to) (o : op < n) (l : s < h) where
       -- a start inside the window may be tried
       pub may-try : from ≤ s → s < to → {first : ℕ} → first ≡ firstUseOf (loopOf f) op
-          → Ready f starts rows op n ii h × (op < n) × (s < h) × (allowed (loopOf f) ii (take op starts) (length (loopOf f .deps)) s ≡ true) × (first ≡ firstUseOf (loopOf f) op)
+          → MayTry f starts rows op n ii h s first
       may-try i j e =
           let k = length (loopOf f .deps) in
-          (still, o, l, ap (λ (xs : List ℕ). allowed (loopOf f) ii xs k s) (turn .kept) ∙ in-window (loopOf f) ii (take op starts₀) h k from to s w l i j, e)
+          record {
+            ready = still;
+            inside = o;
+            start-near = l;
+            unbroken = ap (λ (xs : List ℕ). allowed (loopOf f) ii xs k s) (turn .kept) ∙ in-window (loopOf f) ii (take op starts₀) h k from to s w l i j;
+            first-is = e;
+          }
 
       -- one outside it takes its probe
       pub skips : (purse ≡ 0 → ⊥) → (s < from) ⊎ (to ≤ s) → AtProbe f starts₀ rows₀ op n ii h left starts rows (purse - 1) (s + 1)
@@ -275,11 +281,10 @@ module _ {f starts₀ rows₀ : List ℕ} {op n ii h : ℕ} (ready : Ready f sta
 
 -- ---- one start, which the dependences allow
 
-module _ {f starts rows : List ℕ} {op n ii h s first : ℕ}
-    (asked : Ready f starts rows op n ii h × (op < n) × (s < h) × (allowed (loopOf f) ii (take op starts) (length (loopOf f .deps)) s ≡ true) × (first ≡ firstUseOf (loopOf f) op)) where
+module _ {f starts rows : List ℕ} {op n ii h s first : ℕ} (asked : MayTry f starts rows op n ii h s first) where
   -- where the search stands
   abbrev ready : Ready f starts rows op n ii h
-  ready = asked .0
+  ready = asked .ready
 
   -- the operation
   abbrev p : Op
@@ -299,7 +304,7 @@ module _ {f starts rows : List ℕ} {op n ii h s first : ℕ}
 
   -- it is an operation of the loop
   op-in : op < size (loopOf f)
-  op-in = omega (arith, asked .1, ready .is-size)
+  op-in = omega (arith, asked .inside, ready .is-size)
 
   -- it is one of 64
   pub op-few : op < 64
@@ -335,7 +340,7 @@ module _ {f starts rows : List ℕ} {op n ii h s first : ℕ}
 
   -- the starts with one more
   one-more : take (op + 1) (set starts op s) ≡ take op starts ++ s ∷ []
-  one-more = ap (λ (k : ℕ). take k (set starts op s)) (add-one op) ∙ take-suc-set starts op s (omega (arith, asked .1, ready .long))
+  one-more = ap (λ (k : ℕ). take k (set starts op s)) (add-one op) ∙ take-suc-set starts op s (omega (arith, asked .inside, ready .long))
 
   -- which place it too
   next-placing : placed (take (op + 1) (set starts op s)) ≡ placeAt placing op s
@@ -348,7 +353,7 @@ module _ {f starts rows : List ℕ} {op n ii h s first : ℕ}
 
     -- so it can be reserved
     pub can-reserve : UsesIn 0 rows ii s (p .uses)
-    can-reserve = reserve-uses (loopOf f) ii placing op s loop-ok (ready .some) op-in open-yet rows (ready .held) digits (omega (arith, asked .2, ready .near)) clear
+    can-reserve = reserve-uses (loopOf f) ii placing op s loop-ok (ready .some) op-in open-yet rows (ready .held) digits (omega (arith, asked .start-near, ready .near)) clear
 
     -- the table with it
     with-it : {rows₁ : List ℕ} → rows₁ ≡ reserved → IsTable 2 ii (cellsOf (loopOf f) ii (placeAt placing op s)) rows₁
@@ -358,7 +363,7 @@ module _ {f starts rows : List ℕ} {op n ii h s first : ℕ}
     fits-here : fitsAt (loopOf f) ii placing op s ≡ true
     fits-here =
         ap (λ (o : ℕ). fitsAt (loopOf f) ii placing o s) (sym len) ∙ fits-next (loopOf f) ii (take op starts) s
-        ∙ and-both (allowed (loopOf f) ii (take op starts) (length (loopOf f .deps)) s) _ (asked .3)
+        ∙ and-both (allowed (loopOf f) ii (take op starts) (length (loopOf f .deps)) s) _ (asked .unbroken)
         (ap (λ (o : ℕ). not (conflicts (loopOf f) ii placing o s)) len ∙ false-not (conflicts (loopOf f) ii placing op s) clear)
 
     -- so the placing with it is legal
@@ -372,7 +377,7 @@ module _ {f starts rows : List ℕ} {op n ii h s first : ℕ}
     deeper {rows₁} e = record {
       accepted = ready .accepted;
       is-size = ready .is-size;
-      deep = omega (arith, asked .1);
+      deep = omega (arith, asked .inside);
       some = ready .some;
       short = ready .short;
       near = ready .near;
@@ -383,14 +388,14 @@ module _ {f starts rows : List ℕ} {op n ii h s first : ℕ}
     }
       where
         pick : (o : ℕ) → o ≤ op → Dec (o ≡ op) → getD (set starts op s) o 0 < 4096
-        pick o l (yes e) = rw e (omega (arith, getD-set-same starts op s 0 (omega (arith, asked .1, ready .long)), asked .2, ready .near))
+        pick o l (yes e) = rw e (omega (arith, getD-set-same starts op s 0 (omega (arith, asked .inside, ready .long)), asked .start-near, ready .near))
         pick o l (no ne) = omega (arith, getD-set-other starts op o s 0 ne, ready .early o (omega arith))
 
     module _ {rows₁ rows₂ : List ℕ} (put : rows₁ ≡ reserved) (same : rows₂ ≡ rows₁) where
       -- the rows as they were after reserving: it can be released
       pub can-release : UsesIn 1 rows₂ ii s (p .uses)
       can-release =
-          release-uses (loopOf f) ii placing op s loop-ok (ready .some) op-in open-yet (omega (arith, asked .2, ready .near)) rows₂ (with-it (same ∙ put))
+          release-uses (loopOf f) ii placing op s loop-ok (ready .some) op-in open-yet (omega (arith, asked .start-near, ready .near)) rows₂ (with-it (same ∙ put))
           (legal-digits (loopOf f) ii (placeAt placing op s) loop-ok legal-with)
 
       -- which gives the first rows back

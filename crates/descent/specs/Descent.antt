@@ -2,13 +2,13 @@
 use mathlib.Core.Path.{_≡_}
 use mathlib.Core.Bool.{true}
 use mathlib.Core.List.{List, [], _∷_, _++_}
-use Prim.Native.Nat.{ℕ, _-_, _≤_}
+use Prim.Native.Nat.{ℕ, _-_, _≤_, _<_}
 use lib.ListN.{length, take}
-use Rattle.model.specs.Loop.{size}
+use Rattle.model.specs.Loop.{size, firstUseOf}
 use Rattle.model.specs.File.{loopOf, Accepted}
 use Rattle.model.specs.Legality.{placed, legal}
 use Rattle.model.specs.Table.{IsTable, cellsOf}
-use Rattle.descent.specs.Span.{Early}
+use Rattle.descent.specs.Span.{Early, allowed}
 use Rattle.descent.specs.Tree.{Res, broke, all, no-more, under, run}
 use Rattle.descent.specs.declared.Found.{Found}
 use Rattle.descent.specs.declared.Found.the-variants.{All, Spent, Nothing}
@@ -37,6 +37,14 @@ pub record Ready (f starts rows : List ℕ) (op n ii h : ℕ) : Type 0 where
   pub early : Early op starts
   pub held : IsTable 2 ii (cellsOf (loopOf f) ii (placed (take op starts))) rows
   pub fine : legal (loopOf f) ii (take op starts) ≡ true
+
+-- and may try start s of that operation: the dependences with itself and the operations before it allow s, and its first use has the number `first`
+pub record MayTry (f starts rows : List ℕ) (op n ii h s first : ℕ) : Type 0 where
+  pub ready : Ready f starts rows op n ii h
+  pub inside : op < n
+  pub start-near : s < h
+  pub unbroken : allowed (loopOf f) ii (take op starts) (length (loopOf f .deps)) s ≡ true
+  pub first-is : first ≡ firstUseOf (loopOf f) op
 
 -- what a part of the search leaves, where `out` is what it comes to below the prefix p
 pub record Done (out : Res) (n op : ℕ) (p before after : List ℕ) (r : Found) : Type 0 where

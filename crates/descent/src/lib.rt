@@ -18,7 +18,7 @@ ghost use lib.ListN.{length, take};
 ghost use Rattle.model.specs.Loop.{firstUseOf};
 ghost use Rattle.model.specs.File.{loopOf};
 ghost use Rattle.descent.specs.Span.{allowed};
-ghost use Rattle.descent.specs.Descent.{Ready, Done, below, branch};
+ghost use Rattle.descent.specs.Descent.{Ready, MayTry, Done, below, branch};
 
 // What a part of the search comes to: every operation has a start, and so much is left of the budget; the budget is spent; there is no list, and so much is left.
 pub enum Found {
@@ -100,7 +100,7 @@ fn try_start(
     s: usize,
     left: usize,
 ) -> Found
-    requires { ⌜ Ready (now file) (now starts) (now rows) op n interval horizon × (op < n) × (s < horizon) × (allowed (loopOf (now file)) interval (take op (now starts)) (length (loopOf (now file) .deps)) s ≡ true) × (first ≡ firstUseOf (loopOf (now file)) op) ⌝ }
+    requires { ⌜ MayTry (now file) (now starts) (now rows) op n interval horizon s first ⌝ }
     ensures done { λ r. ⌜ Done (branch (now (file .entry)) (now (starts .entry)) op n interval horizon s left) n op (take op (now (starts .entry)) ++ s ∷ []) (now (starts .entry)) (now (starts .exit)) r ⌝ }
     ensures same { λ r. ⌜ now (rows .exit) ≡ now (rows .entry) ⌝ }
 {

@@ -1,6 +1,6 @@
 -- What is returned and written for a callee's answer, once the answer's case is known. Assumes nothing.
 use mathlib.Core.Path.{_≡_, refl, sym, ap, _∙_}
-use mathlib.Core.List.{List}
+use mathlib.Core.List.{List, [], _∷_}
 use Prim.Native.Nat.{ℕ}
 use Rattle.model.specs.Refusals.{Answer}
 use Rattle.model.specs.Bounds.{BoundsIs}
@@ -10,13 +10,18 @@ use Rattle.lower_bounds.specs.Answer.{boundsOf}
 use Rattle.search.specs.declared.Searched.{Searched}
 use Rattle.search.specs.Answer.{answerOf, Searches}
 use Rattle.replay.specs.Words.{written, numberOf, wordsOf, Gives}
-use Rattle.mwelitunga.specs.Words.{lowerWords, BoundsGiven, outcomeNumber, outcomeWords, SearchGiven}
+use Rattle.refusals.specs.declared.Checked.{Checked}
+use Rattle.mwelitunga.specs.Words.{checkNumber, checkDetail, RefusalGiven, lowerWords, BoundsGiven, outcomeNumber, outcomeWords, SearchGiven}
 
 -- x says the answer a, and x is y: what is returned and written for y is given of a
 pub told : {X A : Type 0} (says : X → Answer A) {x y : X} {a : Answer A} {tell : A → List ℕ} {r : ℕ} {before after : List ℕ} → says x ≡ a → x ≡ y → r ≡ numberOf (says y)
     → after ≡ written 0 (wordsOf tell (says y)) before → Gives a tell r before after
 told says {tell = tell} {before = before} s e n w =
     let z = sym (ap says e) ∙ s in record { number = n ∙ ap numberOf z; words = w ∙ ap (λ b. written 0 (wordsOf tell b) before) z }
+
+-- a check that is x: what is returned and written for x is given of it
+pub refusal-told : {c x : Checked} {r : ℕ} {before after : List ℕ} → c ≡ x → r ≡ checkNumber x → after ≡ written 0 (checkDetail x ∷ 0 ∷ 0 ∷ 0 ∷ 0 ∷ 0 ∷ 0 ∷ 0 ∷ []) before → RefusalGiven c r before after
+refusal-told e n w = rw e (record { number = n; words = w })
 
 -- the same of the bounds
 pub bounds-told : {f : List ℕ} {x y : LowerBounds} {r : ℕ} {before after : List ℕ} → BoundsIs f (boundsOf x) → x ≡ y → r ≡ numberOf (boundsOf y)

@@ -8,7 +8,24 @@ use Rattle.model.specs.Bounds.{Lower, BoundsIs}
 use Rattle.model.specs.Search.{Outcome, found, ended, SearchIs, listAfter, rowsAfter}
 use Rattle.model.specs.Verifier.{Verdict, isLegal, breach, clash}
 use Rattle.loop_file.specs.Read.{Counts}
+use Rattle.refusals.specs.declared.Checked.{Checked}
+use Rattle.refusals.specs.declared.Checked.the-variants as checked
 use Rattle.replay.specs.Words.{written, Gives}
+
+-- a check's number and detail, 0 where nothing is against it
+abbrev pub checkNumber : Checked → ℕ
+checkNumber checked.Fine = 0
+checkNumber (checked.Refused n d) = n
+
+-- the detail
+abbrev pub checkDetail : Checked → ℕ
+checkDetail checked.Fine = 0
+checkDetail (checked.Refused n d) = d
+
+-- a check's refusal: its number is returned, its detail written
+pub record RefusalGiven (c : Checked) (r : ℕ) (before after : List ℕ) : Type 0 where
+  pub number : r ≡ checkNumber c
+  pub words : after ≡ written 0 (checkDetail c ∷ 0 ∷ 0 ∷ 0 ∷ 0 ∷ 0 ∷ 0 ∷ 0 ∷ []) before
 
 -- operations, uses, dependences
 abbrev pub countWords : Counts → List ℕ

@@ -12,7 +12,7 @@ ghost use Rattle.model.specs.Search as model;
 ghost use Rattle.model.specs.Verifier.{verifyFile};
 ghost use Rattle.loop_file.specs.Read.{counted};
 ghost use Rattle.replay.specs.Words.{written, Gives};
-ghost use Rattle.mwelitunga.specs.Words.{countWords, verdictWords, BoundsGiven, SearchGiven};
+ghost use Rattle.mwelitunga.specs.Words.{RefusalGiven, countWords, verdictWords, BoundsGiven, SearchGiven};
 ghost use Rattle.replay.specs.Replay.{Replayed};
 
 // The eight numbers of an answer, the last two 0.
@@ -27,6 +27,22 @@ fn write_answer(answer: &mut [u64; 8], a: usize, b: usize, c: usize, d: usize, e
     answer[5] = f as u64;
     answer[6] = 0;
     answer[7] = 0;
+}
+
+// The eight numbers of a check's refusal, whose number is returned. (A check that is fine has none, and is not asked for one.)
+fn write_refusal(answer: &mut [u64; 8], c: Checked) -> usize
+    ensures { λ r. ⌜ RefusalGiven c r (now (answer .entry)) (now (answer .exit)) ⌝ }
+{
+    match c {
+        Checked::Fine => {
+            write_answer(answer, 0, 0, 0, 0, 0, 0);
+            0
+        }
+        Checked::Refused(number, detail) => {
+            write_answer(answer, detail, 0, 0, 0, 0, 0);
+            number
+        }
+    }
 }
 
 // Reads a loop file: the numbers of operations, uses and dependences.
@@ -174,16 +190,14 @@ pub extern "C" fn mw_session(
     ensures { λ r. ⌜ Replayed (now (file .entry)) interval horizon (now (calls .entry)) (now (rows .entry)) (now (replies .entry)) (now (starts .entry)) (now (answer .entry)) r (now (rows .exit)) (now (replies .exit)) (now (starts .exit)) (now (answer .exit)) ⌝ }
 {
     let checked = replay::unfit(calls, replies.len());
-    if let Checked::Refused(number, detail) = checked {
-        write_answer(answer, detail, 0, 0, 0, 0, 0);
-        return number;
-    }
+    let Checked::Fine = checked else {
+        return write_refusal(answer, checked);
+    };
     let opening = session::open(file, interval, horizon, rows);
     let opened = opening.answer;
-    if let Checked::Refused(number, detail) = opened {
-        write_answer(answer, detail, 0, 0, 0, 0, 0);
-        return number;
-    }
+    let Checked::Fine = opened else {
+        return write_refusal(answer, opened);
+    };
     let n = calls.len() / 3;
     let begun = opening.session;
     let s = replay::run(begun, rows, calls, n, replies);

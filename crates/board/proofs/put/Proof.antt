@@ -13,21 +13,21 @@ use Rattle.board.proofs.put.Tie as tie
 
 -- the operation has a place
 inside : (s : tie.Start) → s .args .op < 64
-inside s = omega (arith, few-operations (s .args .file .now) (s .pre .0 .accepted), s .pre .1)
+inside s = omega (arith, few-operations (s .args .file .now) (s .pre .board .accepted), s .pre .inside)
 
 -- and is not placed
 free : (s : tie.Start) → seats (s .args .starts .now) (s .args .op) ≡ none
-free s = seat-none (getD (s .args .starts .now) (s .args .op) 65535) (s .pre .2)
+free s = seat-none (getD (s .args .starts .now) (s .args .op) 65535) (s .pre .blank)
 
 first-use-requires : tie.Need-first-use-requires
-first-use-requires c κs = let p = c .before .before .pre in (p .0 .accepted, p .1)
+first-use-requires c κs = let p = c .before .before .pre in (p .board .accepted, p .inside)
 
 reserve-requires : tie.Need-reserve-requires
 reserve-requires c κs =
     let u = c .before in
     let s = u .before .before .before in
     let p = s .pre in
-    (p .0 .accepted, p .1, put-uses (s .args .op) (s .args .start) (p .0) (p .1) (p .3) (free s) (p .4), u .first-use .ensures)
+    (p .board .accepted, p .inside, put-uses (s .args .op) (s .args .start) (p .board) (p .inside) (p .near) (free s) (p .fits), u .first-use .ensures)
 
 cast-starts : tie.Need-cast-starts
 cast-starts c = search needs
@@ -47,7 +47,7 @@ returns c =
     let a = s .args in
     let p = s .pre in
     rw (c .before .before .reserve .ensures)
-    (put-is (a .op) (a .start) (p .0) (p .1) (p .3) (free s) (p .4))
+    (put-is (a .op) (a .start) (p .board) (p .inside) (p .near) (free s) (p .fits))
 
 pub put-spec : {M : Type 1} → statement M
 put-spec =

@@ -192,7 +192,7 @@ choose-returns-5 t c = (ends (entry t (c .before) .pre .1) (c .before .loop .inv
 try-start-conflict-requires : (t : ℕ) → try-start-lts.Need-conflict-requires (calls t) (try-start-at t) try-start.Post
 try-start-conflict-requires t c κs =
     let p = c .before .before .before .before .pre .1 in
-    (p .0 .accepted, omega (arith, p .1, p .0 .is-size), omega (arith, p .2, p .0 .near), p .0 .some, p .0 .short, p .0 .held .long, p .4)
+    (p .ready .accepted, omega (arith, p .inside, p .ready .is-size), omega (arith, p .start-near, p .ready .near), p .ready .some, p .ready .short, p .ready .held .long, p .first-is)
 
 try-start-enum-told : (t : ℕ) → try-start-lts.Need-enum-told (calls t) (try-start-at t) try-start.Post
 try-start-enum-told t c = c .match .keys1
@@ -221,17 +221,17 @@ free : (t : ℕ) (f : Passed t) → let a = first t f .args in firstTaken (a .in
 free t f = let k = f .before .before in free-place (k .conflict .result) _ (k .conflict .ensures) (f .enum-told .given .1)
 
 try-start-cast-starts : (t : ℕ) → try-start-lts.Need-cast-starts (calls t) (try-start-at t) try-start.Post
-try-start-cast-starts t c = let p = first t c .pre .1 in omega (arith, p .2, p .0 .near)
+try-start-cast-starts t c = let p = first t c .pre .1 in omega (arith, p .start-near, p .ready .near)
 
 try-start-mul-starts : (t : ℕ) → try-start-lts.Need-mul-starts (calls t) (try-start-at t) try-start.Post
 try-start-mul-starts t c = omega (arith, op-few (first t c .pre .1))
 
 try-start-slice-write-starts : (t : ℕ) → try-start-lts.Need-slice-write-starts (calls t) (try-start-at t) try-start.Post
-try-start-slice-write-starts t c = let p = first t c .pre .1 in omega (arith, p .1, p .0 .long)
+try-start-slice-write-starts t c = let p = first t c .pre .1 in omega (arith, p .inside, p .ready .long)
 
 try-start-reserve-requires : (t : ℕ) → try-start-lts.Need-reserve-requires (calls t) (try-start-at t) try-start.Post
 try-start-reserve-requires t c κs =
-    let p = first t (c .before) .pre .1 in (p .0 .accepted, omega (arith, p .1, p .0 .is-size), can-reserve p (free t (c .before)), p .4)
+    let p = first t (c .before) .pre .1 in (p .ready .accepted, omega (arith, p .inside, p .ready .is-size), can-reserve p (free t (c .before)), p .first-is)
 
 try-start-add-choose : (t : ℕ) → try-start-lts.Need-add-choose (calls t) (try-start-at t) try-start.Post
 try-start-add-choose t c = omega (arith, op-few (first t (c .before .before .before .before .before .before) .pre .1))
@@ -254,7 +254,7 @@ try-start-release-requires : (t : ℕ) → try-start-lts.Need-release-requires (
 try-start-release-requires t c κs =
     let w = c .before .before .before .before .before in
     let p = first t (passed t w) .pre .1 in
-    (p .0 .accepted, omega (arith, p .1, p .0 .is-size), can-release p (free t (passed t w)) (put t w .reserve .ensures) (w .choose .ensures .1), p .4)
+    (p .ready .accepted, omega (arith, p .inside, p .ready .is-size), can-release p (free t (passed t w)) (put t w .reserve .ensures) (w .choose .ensures .1), p .first-is)
 
 -- at the end: the call
 abbrev call : (t : ℕ) → try-start-lts.After-slice-known6 (calls t) (try-start-at t) try-start.Post → try-start-lts.After-choose (calls t) (try-start-at t) try-start.Post

@@ -50,7 +50,16 @@ in-the-way-requires c κs =
     let s = entry i in
     let b = s .pre .0 in
     let t = i .before .loop .inv .1 in
-    (b .accepted, b .numbers, t .board .sane, s .pre .1, inside i, s .pre .3, clear-open b (s .pre .2) t, clear-hit b (s .pre .2) t (inside i) (i .before .before .before .mark-broken .ensures))
+    record {
+      accepted = b .accepted;
+      numbers = b .numbers;
+      sane = t .board .sane;
+      inside = s .pre .1;
+      inside-p = inside i;
+      near = s .pre .3;
+      blank = clear-open b (s .pre .2) t;
+      hit = clear-hit b (s .pre .2) t (inside i) (i .before .before .before .mark-broken .ensures);
+    }
 
 lift-requires : tie.Need-lift-requires Inv-loop μ-loop
 lift-requires c κs =

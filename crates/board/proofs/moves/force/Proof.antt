@@ -76,7 +76,7 @@ put-requires c κs =
     let o = s .args .op in
     let t = s .args .start in
     let l = d .displace .ensures in
-    (l .board, force-inside b o t (fine e), force-free b o t (fine e) l, near e, force-fits b o t (fine e) l)
+    record { board = l .board; inside = force-inside b o t (fine e); blank = force-free b o t (fine e) l; near = near e; fits = force-fits b o t (fine e) l }
 
 same-length : tie.Need-same-length
 same-length c = omega arith

@@ -12,15 +12,15 @@ use Rattle.board.proofs.moves.in_the_way.Tie as tie
 
 -- the operation has a place
 below : (s : tie.Start) → s .args .p < 64
-below s = omega (arith, few-operations (s .args .file .now) (s .pre .0), s .pre .4)
+below s = omega (arith, few-operations (s .args .file .now) (s .pre .accepted), s .pre .inside-p)
 
 -- what is read there
 number-is : (s : tie.Start) → getD (s .args .starts .now) (s .args .p) 65535 ≡ getD (s .args .starts .now) (s .args .p) 0
-number-is s = getD-within (s .args .starts .now) (s .args .p) 65535 0 (omega (arith, below s, s .pre .2 .whole))
+number-is s = getD-within (s .args .starts .now) (s .args .p) 65535 0 (omega (arith, below s, s .pre .sane .whole))
 
 -- a placed operation is another one
 other : (s : tie.Start) → (getD (s .args .starts .now) (s .args .p) 0 ≡ 65535 → ⊥) → s .args .p ≡ s .args .op → ⊥
-other s n e = n (sym (number-is s) ∙ ap (λ (q : ℕ). getD (s .args .starts .now) q 65535) e ∙ s .pre .6)
+other s n e = n (sym (number-is s) ∙ ap (λ (q : ℕ). getD (s .args .starts .now) q 65535) e ∙ s .pre .blank)
 
 mul-other : tie.Need-mul-other
 mul-other c = omega (arith, below (c .before))
@@ -31,7 +31,7 @@ element-copy-out-other c = below (c .before)
 returns : tie.Need-returns
 returns c =
     let s = c .before .before .before in
-    sym (way-blank (s .args .file .now) (s .pre .0) (s .pre .2) (s .args .op) (s .args .start) (s .args .p) (number-is s ∙ c .if1 .taken))
+    sym (way-blank (s .args .file .now) (s .pre .accepted) (s .pre .sane) (s .args .op) (s .args .start) (s .args .p) (number-is s ∙ c .if1 .taken))
 
 element-copy-out-if2 : tie.Need-element-copy-out-if2
 element-copy-out-if2 c = below (c .before .before .before)
@@ -40,15 +40,15 @@ returns-2 : tie.Need-returns-2
 returns-2 c =
     let i = c .before .before in
     let s = i .before .before .before in
-    sym (way-hit (s .args .file .now) (s .pre .0) (s .pre .2) (s .args .op) (s .args .start) (s .args .p) _ (number-is s) (i .if1 .left)
-    (sym (s .pre .7 .1 (other s (i .if1 .left))) ∙ eq-eqb (getD (s .args .hits .now) (s .args .p) 0) 1 (c .if2 .taken)))
+    sym (way-hit (s .args .file .now) (s .pre .accepted) (s .pre .sane) (s .args .op) (s .args .start) (s .args .p) _ (number-is s) (i .if1 .left)
+    (sym (s .pre .hit .1 (other s (i .if1 .left))) ∙ eq-eqb (getD (s .args .hits .now) (s .args .p) 0) 1 (c .if2 .taken)))
 
 -- its start is in range
 near : (c : tie.Else2) → let s = c .before .before .before .before .before in getD (s .args .starts .now) (s .args .p) 0 < 4096
 near c =
     let i = c .before .before in
     let s = i .before .before .before in
-    omega (arith, number-is s, sane-near (s .pre .2) (s .args .p) (λ e. i .if1 .left (sym (number-is s) ∙ e)))
+    omega (arith, number-is s, sane-near (s .pre .sane) (s .args .p) (λ e. i .if1 .left (sym (number-is s) ∙ e)))
 
 cast-overlap : tie.Need-cast-overlap
 cast-overlap c = omega (arith, near c)
@@ -56,15 +56,15 @@ cast-overlap c = omega (arith, near c)
 overlap-requires : tie.Need-overlap-requires
 overlap-requires c κs =
     let s = c .before .before .before .before .before in
-    (s .pre .0, s .pre .3, s .pre .4, s .pre .5, near c, s .pre .1 .some, s .pre .1 .short)
+    (s .pre .accepted, s .pre .inside, s .pre .inside-p, s .pre .near, near c, s .pre .numbers .some, s .pre .numbers .short)
 
 returns-3 : tie.Need-returns-3
 returns-3 c =
     let i = c .before .before .before in
     let s = i .before .before .before in
     c .overlap .ensures
-    ∙ sym (way-clash (s .args .file .now) (s .pre .0) (s .pre .2) (s .args .op) (s .args .start) (s .args .p) _ (number-is s) (i .if1 .left) (other s (i .if1 .left))
-    (sym (s .pre .7 .1 (other s (i .if1 .left))) ∙ ne-eqb (getD (s .args .hits .now) (s .args .p) 0) 1 (c .before .if2 .left)))
+    ∙ sym (way-clash (s .args .file .now) (s .pre .accepted) (s .pre .sane) (s .args .op) (s .args .start) (s .args .p) _ (number-is s) (i .if1 .left) (other s (i .if1 .left))
+    (sym (s .pre .hit .1 (other s (i .if1 .left))) ∙ ne-eqb (getD (s .args .hits .now) (s .args .p) 0) 1 (c .before .if2 .left)))
 
 pub in-the-way-spec : {M : Type 1} → statement M
 in-the-way-spec =

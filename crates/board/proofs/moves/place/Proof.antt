@@ -58,7 +58,13 @@ put-requires c κs =
     let b = s .pre .1 in
     let o = s .args .op in
     let t = s .args .start in
-    (board-far b, place-inside b o t (fine e), blank-is (s .args .starts .now) o (place-open b o t (fine e)), omega (arith, place-near b o t (fine e), b .numbers .far), place-fits b o t (fine e))
+    record {
+      board = board-far b;
+      inside = place-inside b o t (fine e);
+      blank = blank-is (s .args .starts .now) o (place-open b o t (fine e));
+      near = omega (arith, place-near b o t (fine e), b .numbers .far);
+      fits = place-fits b o t (fine e);
+    }
 
 same-length-2 : tie.Need-same-length-2
 same-length-2 c = omega arith

@@ -69,13 +69,14 @@ put-requires c κs =
     let a = c .before .before in
     let i = a .before .before .before .before in
     let t = i .before .loop .inv .1 in
-    let free = start-is i ∙ a .before .before .if1 .taken in (
-      t .board,
-      inside i,
-      free,
-      near a,
-      fill-fits t (getD (entry i .args .wanted .now) (i .before .loop .p) 0) (entry i .pre .1) (inside i) free (wanted-is i) (a .if2 .taken),
-    )
+    let free = start-is i ∙ a .before .before .if1 .taken in
+    record {
+      board = t .board;
+      inside = inside i;
+      blank = free;
+      near = near a;
+      fits = fill-fits t (getD (entry i .args .wanted .now) (i .before .loop .p) 0) (entry i .pre .1) (inside i) free (wanted-is i) (a .if2 .taken);
+    }
 
 add-p : tie.Need-add-p Inv-loop μ-loop
 add-p c = omega (arith, below (c .before .before))
