@@ -5,14 +5,13 @@ use mathlib.Core.List.{List, [], _∷_}
 use mathlib.Core.Option.{Option, none, some}
 use Prim.Native.Nat.{ℕ, _≤_, _<_}
 use native.Mathlib.Omega.{arith}
-use borrow.Author.Tests.{le-leb, lt-leb, lt-ltb, le-ltb, leb-false}
-use lib.Dec.{ltb}
+use borrow.Author.Tests.{le-leb, lt-leb, leb-false}
 use lib.ListN.{getD, replicate}
-use Rattle.model.specs.Refusals.{Refusal, Check, check, range, outside, firstRefusal}
+use Rattle.model.specs.Refusals.{Refusal, Check, check, firstRefusal}
 use Rattle.model.specs.Loop.{size, opAt, LoopOk}
-use Rattle.model.specs.File.{loopOf, Accepted, fileChecks}
+use Rattle.model.specs.File.{loopOf}
 use Rattle.model.specs.Legality.{Placing, selfConflict, firstBreach, conflicts}
-use Rattle.model.specs.Session.{placedIn, isPlaced, absent, taken, late, unmet, nowhere, checks, place, force, remove, openChecks}
+use Rattle.model.specs.Session.{placedIn, isPlaced, absent, taken, late, unmet, nowhere, checks, place, force, remove}
 use Rattle.model.proofs.Lists.{getD-filled}
 use Rattle.model.proofs.File.{accepted-ok}
 use Rattle.model.proofs.Checks.{refusal-append, refusal-early, passes-head, passes-tail, found-refused, found-passed}

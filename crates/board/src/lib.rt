@@ -6,14 +6,10 @@ pub mod moves;
 use loop_access::first_use;
 use reservation::cells::release;
 use reservation::cells::reserve;
-ghost use mathlib.Core.Path.{_≡_};
-ghost use mathlib.Core.Bool.{true};
-ghost use Prim.Native.Nat.{_<_, _≤_};
-ghost use lib.ListN.{length, getD, drop};
+ghost use Prim.Native.Nat.{_<_};
+ghost use lib.ListN.{getD};
 ghost use Rattle.model.specs.Loop.{size};
 ghost use Rattle.model.specs.File.{loopOf};
-ghost use Rattle.model.specs.Legality.{fitsAt};
-ghost use Rattle.reservation.specs.Seats.{seats};
 ghost use Rattle.board.specs.Board.{Board, MayPut, IsPut};
 
 // What a call answers: done; the operations that were displaced, bit i for operation i; the number of the new checkpoint; or a refusal with its number and detail.

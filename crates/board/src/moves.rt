@@ -16,11 +16,11 @@ ghost use mathlib.Core.Path.{_≡_};
 ghost use Prim.Native.Nat.{_<_, _≤_};
 ghost use lib.ListN.{length, getD, take, replicate};
 ghost use Rattle.model.specs.Loop.{size};
-ghost use Rattle.model.specs.File.{loopOf, Accepted};
+ghost use Rattle.model.specs.File.{loopOf};
 ghost use Rattle.model.specs.Session as model;
-ghost use Rattle.board.specs.Board.{Numbers, Named, Sane, Board, setupAs, startsOf};
+ghost use Rattle.board.specs.Board.{Named, Sane, Board, setupAs, startsOf};
 ghost use Rattle.board.specs.Checks.{asReply};
-ghost use Rattle.board.specs.Moves.{Did, Removed, HitsAre, hitBy, MarkKnown, Cleared, Agrees, Thinned, Restored};
+ghost use Rattle.board.specs.Moves.{Did, Removed, HitsAre, MarkKnown, Cleared, Agrees, Thinned, Restored};
 
 // Places an operation, or says why not.
 pub fn place(

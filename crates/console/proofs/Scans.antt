@@ -1,12 +1,12 @@
 -- What a place of a text adds to the spaces and digits behind it. Assumes nothing.
 use mathlib.Core.Path.{_≡_, refl, sym, ap, _∙_}
-use mathlib.Core.Bool.{Bool, true, false, cond, _&&_}
+use mathlib.Core.Bool.{Bool, true, false, cond}
 use mathlib.Core.List.{List, [], _∷_, _++_}
 use Prim.Native.Nat.{ℕ, zero, suc, _+_, _*_, _-_, _≤_, _<_, min}
 use native.Mathlib.Numerals.{add-one}
 use native.Mathlib.Omega.{arith}
-use borrow.Author.Tests.{le-leb, lt-leb}
-use lib.Dec.{eqb, leb}
+use borrow.Author.Tests.{le-leb}
+use lib.Dec.{eqb}
 use lib.ListN.{length, drop, getD, set, drop-of-length-le, length-append}
 use lib.Seq.{drop-cons, append-snoc, set-at}
 use Rattle.console.specs.Scan.{blanks, isFigure, figures, valueFrom, valueAt, nextAt, places, values}

@@ -11,13 +11,9 @@ use reservation::cells::release;
 use reservation::cells::reserve;
 use reservation::test::conflict;
 ghost use mathlib.Core.Path.{_≡_};
-ghost use mathlib.Core.Bool.{true};
 ghost use mathlib.Core.List.{[], _∷_, _++_};
 ghost use Prim.Native.Nat.{_<_};
-ghost use lib.ListN.{length, take};
-ghost use Rattle.model.specs.Loop.{firstUseOf};
-ghost use Rattle.model.specs.File.{loopOf};
-ghost use Rattle.descent.specs.Span.{allowed};
+ghost use lib.ListN.{take};
 ghost use Rattle.descent.specs.Descent.{Ready, MayTry, Done, below, branch};
 
 // What a part of the search comes to: every operation has a start, and so much is left of the budget; the budget is spent; there is no list, and so much is left.

@@ -15,7 +15,7 @@ use Rattle.model.specs.Refusals.{Answer, answered, refused}
 use Rattle.model.specs.Loop.{size}
 use Rattle.model.specs.File.{loopOf}
 use Rattle.model.specs.Legality.{Placing}
-use Rattle.model.specs.Session.{placedIn, start, after}
+use Rattle.model.specs.Session.{placedIn}
 use Rattle.model.specs.Session as model
 use Rattle.model.proofs.Lists.{length-tabulate, getD-tabulate}
 use Rattle.session.specs.View.{fileOf, stateOf, Valid}

@@ -5,7 +5,7 @@ use loop_access::offset;
 use loop_access::slot;
 use loop_access::use_count;
 ghost use mathlib.Core.Path.{_≡_};
-ghost use Prim.Native.Nat.{_<_, _≤_};
+ghost use Prim.Native.Nat.{_<_};
 ghost use lib.ListN.{length};
 ghost use Rattle.model.specs.Loop.{size, opAt, firstUseOf};
 ghost use Rattle.model.specs.File.{loopOf, Accepted};

@@ -1,14 +1,11 @@
 -- What a caller of `search` may rely on: the theorems about the model's sweep, said of what the code answers for any file, request and lent memory. Assumes nothing.
 use mathlib.Core.Path.{_≡_, refl, sym, ap, _∙_}
-use mathlib.Core.List.{List}
-use mathlib.Core.Option.{none}
-use Prim.Native.Nat.{ℕ}
 use lib.ListN.{length}
-use Rattle.model.specs.Refusals.{Answer, answered, firstRefusal}
+use Rattle.model.specs.Refusals.{Answer, answered}
 use Rattle.model.specs.Loop.{Loop, LoopOk}
 use Rattle.model.specs.File.{loopOf}
 use Rattle.model.specs.Bounds.{Lower, LowerIs}
-use Rattle.model.specs.Search.{Request, searchChecks, Outcome, found, ended, by-sweep}
+use Rattle.model.specs.Search.{Request, Outcome, by-sweep}
 use Rattle.model.proofs.File.{accepted-ok}
 use Rattle.model.proofs.Answers.{search-accepted, search-unique}
 use Rattle.search.specs.Answer.{answerOf}

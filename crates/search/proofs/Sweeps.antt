@@ -7,14 +7,13 @@ use mathlib.Core.Option.{Option, none, some}
 use Prim.Native.Nat.{ℕ, zero, suc, _+_, _-_, _≤_, _<_, max}
 use native.Mathlib.Decide.{decLt, ℕ-discrete}
 use native.Mathlib.Omega.{arith}
-use lib.ListN.{length}
 use borrow.Author.Tests.{lt-ltb, le-ltb}
 use Rattle.model.specs.Lists.{upFrom, sumOf}
 use Rattle.model.specs.Refusals.{Refusal, answered}
 use Rattle.model.specs.Loop.{Loop, size, LoopOk}
 use Rattle.model.specs.Legality.{legal}
 use Rattle.model.specs.Bounds.{resourceBound, RecurrenceBound, Lower, LowerIs, cyclic, beyond, within}
-use Rattle.model.specs.Search.{answer, notAfter, probes, stageCount, Request, Schedule, Outcome, found, ended, intervals, tryInterval, sweep}
+use Rattle.model.specs.Search.{answer, probes, stageCount, Request, Schedule, Outcome, found, ended, intervals, tryInterval, sweep}
 use Rattle.model.proofs.Lists.{upFrom-split, sum-append}
 use Rattle.lower_bounds.proofs.Necessity.{bounds-needed}
 use Rattle.descent.proofs.Words.{after-both, answer-is, answer-first, answer-none}

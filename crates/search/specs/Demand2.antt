@@ -5,7 +5,7 @@ use mathlib.Core.List.{List}
 use mathlib.Core.Logic.{_⊎_}
 use mathlib.Core.Option.{none}
 use Prim.Native.Nat.{ℕ, suc, _-_, _≤_, _<_, max}
-use lib.ListN.{length, getD}
+use lib.ListN.{length}
 use Rattle.model.specs.Lists.{upFrom, Below, sumOf}
 use Rattle.model.specs.Refusals.{Refusal, firstRefusal, Answer, answered}
 use Rattle.model.specs.Loop.{Loop, size}

@@ -4,7 +4,6 @@ use loop_access::latency;
 use loop_access::op_count;
 ghost use mathlib.Core.Path.{_≡_};
 ghost use Prim.Native.Nat.{_≤_, _<_};
-ghost use lib.ListN.{length};
 ghost use Rattle.model.specs.File.{loopOf, Accepted};
 ghost use Rattle.model.specs.Search.{startOf, orderOf, lastEnd, stageCount};
 ghost use Rattle.model.specs.Search as model;

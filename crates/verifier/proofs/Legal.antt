@@ -1,22 +1,15 @@
 -- The verifier says legal exactly where the file is accepted, the proposal passes and the list is legal. Assumes nothing.
 use mathlib.Core.Path.{_≡_, refl, ap, _∙_}
-use mathlib.Core.Bool.{Bool, true, false, _||_}
-use mathlib.Core.List.{List, _++_}
+use mathlib.Core.Bool.{true}
+use mathlib.Core.List.{List}
 use mathlib.Core.Option.{Option, none, some}
 use Prim.Native.Nat.{ℕ, _≤_}
 use native.Mathlib.Omega.{arith}
-use lib.Dec.{leb, ltb}
-use lib.ListN.{length, getD, take}
-use borrow.Author.Tests.{ltb-false, leb-false}
-use Rattle.model.specs.Lists.{upFrom}
 use Rattle.model.specs.Refusals.{Refusal, firstRefusal, answered, settled}
-use Rattle.model.specs.Loop.{Loop, size}
-use Rattle.model.specs.File.{fileChecks, loopOf, Accepted}
+use Rattle.model.specs.File.{loopOf, Accepted}
 use Rattle.model.specs.Legality.{placed, meets, legal}
 use Rattle.model.specs.Table.{countOf, cellsOf}
 use Rattle.model.specs.Verifier.{Verdict, isLegal, proposedChecks, verdict, verifyFile}
-use Rattle.model.proofs.Lists.{or-false-left, or-false-right, any-row, none-first}
-use Rattle.model.proofs.Checks.{passes-left, passes-right, passes-head, passes-tail, refusal-append, not-found}
 use Rattle.model.proofs.File.{accepted-ok}
 use Rattle.model.proofs.Verifier.{verdict-legal, legal-verdict, legal-once, once-legal}
 use Rattle.verifier.specs.Walk.{oneEach, Proposal}

@@ -1,11 +1,10 @@
 -- The parts of the verdict, on a list of starts of which the first ones count. Assumes nothing.
 use mathlib.Core.Bool.{Bool, cond}
 use mathlib.Core.List.{List}
-use mathlib.Core.Option.{some, Option·getD}
+use mathlib.Core.Option.{some}
 use Prim.Native.Nat.{ℕ, _+_, _%_, _≤_, _<_}
 use lib.Dec.{eqb, leb}
 use lib.ListN.{length, getD, take}
-use Rattle.model.specs.Lists.{upFrom, first}
 use Rattle.model.specs.Loop.{Use, Op, Loop, size}
 use Rattle.reservation.specs.Overlaps.{coversCell}
 

@@ -8,8 +8,6 @@ use refusals::range;
 use reservation::Broken;
 use walk::Pair;
 ghost use mathlib.Core.Path.{_≡_};
-ghost use Prim.Native.Nat.{_≤_};
-ghost use lib.ListN.{length};
 ghost use Rattle.model.specs.Refusals.{firstRefusal};
 ghost use Rattle.model.specs.Verifier.{proposedChecks, verifyFile};
 ghost use Rattle.refusals.specs.Checked.{refusalOf};

@@ -1,5 +1,4 @@
 -- `lent` meets its contract. Assumes nothing.
-use mathlib.Core.Path.{_≡_}
 use borrow.Author.Tests.{lt-ltb, le-ltb}
 use Rattle.model.specs.Refusals.{firstRefusal}
 use Rattle.refusals.proofs.lent.Statement.{statement}

@@ -1,5 +1,4 @@
 -- `range` meets its contract: by where the number lies. Assumes nothing.
-use mathlib.Core.Path.{_≡_}
 use Rattle.model.specs.Refusals.{firstRefusal}
 use Rattle.model.proofs.Checks.{too-small, too-large, in-range}
 use Rattle.refusals.proofs.range.Statement.{statement}

@@ -5,7 +5,6 @@ use Prim.Native.Nat.{ℕ}
 use native.Mathlib.Omega.{arith}
 use lib.ListN.{length}
 use Rattle.model.specs.Refusals.{Check, range, lent, firstRefusal}
-use Rattle.model.specs.Loop.{size}
 use Rattle.model.specs.File.{fileChecks, loopOf}
 use Rattle.model.specs.Verifier.{lateStart, proposalChecks, proposedChecks}
 use Rattle.model.proofs.Checks.{refusal-append}

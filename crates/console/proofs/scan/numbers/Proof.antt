@@ -1,5 +1,5 @@
 -- `scan::numbers` meets its contract. The loop's invariant: i numbers are read and stored, and the rest of the list is as it was. The measure is the places left. Assumes nothing.
-use mathlib.Core.Path.{_≡_, refl, sym, ap, _∙_}
+use mathlib.Core.Path.{_≡_, refl, ap, _∙_}
 use mathlib.Core.List.{List, _++_, append-nil}
 use Prim.Native.Nat.{ℕ, _+_, _-_, _≤_}
 use native.Mathlib.Omega.{arith}

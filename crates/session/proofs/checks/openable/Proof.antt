@@ -3,7 +3,7 @@ use mathlib.Core.Path.{_≡_, sym, ap, _∙_}
 use mathlib.Core.List.{List, [], _∷_}
 use native.Mathlib.Omega.{arith}
 use Rattle.model.specs.Refusals.{Check, range, lent, firstRefusal}
-use Rattle.model.specs.File.{fileChecks, Accepted}
+use Rattle.model.specs.File.{fileChecks}
 use Rattle.model.specs.Session.{openChecks}
 use Rattle.model.proofs.Checks.{refusal-append}
 use Rattle.refusals.specs.Checked.{refusalOf}
