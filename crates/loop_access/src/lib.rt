@@ -11,6 +11,12 @@ ghost use lib.ListN.{length, getD};
 ghost use Rattle.model.specs.Loop.{noUse, size, opAt, depAt, allUses, firstUseOf};
 ghost use Rattle.model.specs.File.{usesAt, depRecord, loopOf, Accepted};
 
+// The bytes of a use's record (the model's `useWidth`).
+pub const USE_WIDTH: usize = 2;
+
+// The bytes of the longest file (the model's `longest`).
+pub const LONGEST: usize = 1690;
+
 // The number of operations.
 pub fn op_count(file: &[u8]) -> usize
     requires { ⌜ Accepted (now file) ⌝ }
@@ -62,7 +68,7 @@ pub fn use_total(file: &[u8]) -> usize
     requires { ⌜ Accepted (now file) ⌝ }
     ensures { λ r. ⌜ r ≡ length (allUses (loopOf (now (file .entry)))) ⌝ }
 {
-    word(file, 16) / 2
+    word(file, 16) / USE_WIDTH
 }
 
 // Where the records of the uses begin.
@@ -78,7 +84,7 @@ pub fn slot(file: &[u8], u: usize) -> usize
     requires { ⌜ Accepted (now file) × (u < length (allUses (loopOf (now file)))) ⌝ }
     ensures { λ r. ⌜ r ≡ getD (allUses (loopOf (now (file .entry)))) u noUse .slot ⌝ }
 {
-    wide(file[uses_start(file) + 2 * u])
+    wide(file[uses_start(file) + USE_WIDTH * u])
 }
 
 // The offset of use u of all from its operation's start. Version 1 of the file has none.
@@ -94,7 +100,7 @@ pub fn duration(file: &[u8], u: usize) -> usize
     requires { ⌜ Accepted (now file) × (u < length (allUses (loopOf (now file)))) ⌝ }
     ensures { λ r. ⌜ r ≡ getD (allUses (loopOf (now (file .entry)))) u noUse .duration ⌝ }
 {
-    wide(file[uses_start(file) + 2 * u + 1])
+    wide(file[uses_start(file) + USE_WIDTH * u + 1])
 }
 
 // Where the record of dependence e begins.

@@ -7,7 +7,7 @@ use native.Mathlib.Omega.{arith}
 use lib.ListN.{length, take, drop}
 use Rattle.model.specs.Refusals.{Refusal, settled}
 use Rattle.model.specs.Loop.{allUses}
-use Rattle.model.specs.File.{Section, oper, uses, deps, lengthOf, opCount, firstUse, useIn, loopOf, readFile, partIf, bodyOf, Accepted}
+use Rattle.model.specs.File.{Section, longest, oper, uses, deps, lengthOf, opCount, firstUse, useIn, loopOf, readFile, partIf, bodyOf, Accepted}
 use Rattle.model.proofs.Lists.{length-tabulate}
 use Rattle.model.proofs.File.{Layout, layout, size-is, deps-is, all-uses-is}
 use Rattle.loop_file.specs.Read.{readingOf, counted}
@@ -35,7 +35,7 @@ pub record Spans (f : List ℕ) (a b c : ℕ) : Type 0 where
   pub uses-length : lengthOf f uses ≡ 2 * b
   pub deps-length : lengthOf f deps ≡ 4 * c
   pub ends : 26 + 2 * a + 2 * b + 4 * c ≡ length f
-  pub short : length f ≤ 1690
+  pub short : length f ≤ longest
 
 pub spans : (f : List ℕ) {r : Reading} {a b c : ℕ} → r ≡ reading.Accepted a b c → readingOf r ≡ counted (readFile f) → Spans f a b c
 spans f {a = a} {b = b} {c = c} q e =

@@ -8,7 +8,7 @@ use native.Mathlib.Numerals.{add-one}
 use borrow.Author.Tests.{ltb-false}
 use Rattle.model.specs.Lists.{upFrom}
 use Rattle.model.specs.Refusals.{Refusal, Check, firstRefusal, answered, refused, settle}
-use Rattle.model.specs.File.{byteAt, opRecord, usesOf, firstUse, opChecks}
+use Rattle.model.specs.File.{byteAt, opRecord, usesOf, firstUse, opChecks, opChecksAt}
 use Rattle.model.proofs.Checks.{row-refused, passes-head, passes-tail, passes-each}
 use Rattle.loop_file.specs.declared.reader.Part.{Part}
 use Rattle.loop_file.specs.declared.reader.Part.the-variants.{Fine, Refused}
@@ -52,13 +52,13 @@ first-use-next f o = rw (add-one o)
 -- ---- the number of uses
 
 -- an operation that passes its table has at most four uses
-op-few : (f : List ℕ) (at : ℕ) → firstRefusal (opChecks f at) ≡ none → byteAt f (at + 1) ≤ 4
+op-few : (f : List ℕ) (at : ℕ) → firstRefusal (opChecksAt f at) ≡ none → byteAt f (at + 1) ≤ 4
 unfolding opChecks
 op-few f at e = ltb-false 4 (byteAt f (at + 1)) (passes-head _ _ (passes-tail _ _ e))
 
 -- so all have at most four each
 pub uses-few : (f : List ℕ) (n : ℕ) → firstRefusal (opsTable f n) ≡ none → firstUse f n ≤ 4 * n
-uses-few f n e = go n (λ o l. op-few f (opRecord o) (passes-each (λ o. opChecks f (opRecord o)) 0 n o e (omega arith) (omega arith)))
+uses-few f n e = go n (λ o l. op-few f (opRecord o) (passes-each (λ o. opChecksAt f (opRecord o)) 0 n o e (omega arith) (omega arith)))
   where
     go : (k : ℕ) → ((o : ℕ) → o < k → usesOf f o ≤ 4) → firstUse f k ≤ 4 * k
     go zero h = omega (arith, first-use-none f)

@@ -5,7 +5,7 @@ use lib.ListN.{length, getD}
 use Rattle.model.specs.Lists.{upFrom}
 use Rattle.model.specs.Refusals.{Refusal, Check, Answer, answered, refused}
 use Rattle.model.specs.Loop.{Loop, size, allUses}
-use Rattle.model.specs.File.{Section, opCount, depCount, depsAt, opRecord, usesOf, firstUse, opChecks, opUseChecks, usesChecks, depChecks}
+use Rattle.model.specs.File.{Section, opCount, depCount, depsAt, useWidth, opRecord, usesOf, firstUse, opChecksAt, opUseChecks, usesChecks, depChecksAt}
 use Rattle.refusals.specs.declared.Checked.{Checked}
 use Rattle.refusals.specs.declared.Checked.the-variants as checked
 use Rattle.loop_file.specs.declared.Reading as reading-type
@@ -62,15 +62,15 @@ sectionAs entry tag width least most = record { entry = entry; tag = tag; width 
 
 -- the checks of the first n operations
 abbrev pub opsTable : List ℕ → ℕ → List Check
-opsTable f n = flatMap (λ o. opChecks f (opRecord o)) (upFrom 0 n)
+opsTable f n = flatMap (λ o. opChecksAt f (opRecord o)) (upFrom 0 n)
 
 -- the checks of the uses of the first n operations, where the body begins at `start`
 abbrev pub usesTable : List ℕ → ℕ → ℕ → List Check
-usesTable f start n = flatMap (λ o. opUseChecks f (start + 2 * firstUse f o) (usesOf f o)) (upFrom 0 n)
+usesTable f start n = flatMap (λ o. opUseChecks f (start + useWidth * firstUse f o) (usesOf f o)) (upFrom 0 n)
 
 -- the checks of the first m dependences between n operations, where the body begins at `start`
 abbrev pub depsTable : List ℕ → ℕ → ℕ → ℕ → List Check
-depsTable f n start m = flatMap (λ e. depChecks f n (start + 4 * e)) (upFrom 0 m)
+depsTable f n start m = flatMap (λ e. depChecksAt f n (start + 4 * e)) (upFrom 0 m)
 
 -- the checks of the three bodies, 4 to 6
 abbrev pub bodyChecks : List ℕ → List Check

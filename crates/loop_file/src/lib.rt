@@ -3,6 +3,7 @@
 mod reader;
 
 use crate::reader::Part;
+use loop_access::USE_WIDTH;
 use loop_access::bytes::word;
 use refusals::Checked;
 ghost use mathlib.Core.Path.{_≡_};
@@ -75,7 +76,7 @@ pub fn uses_body(file: &[u8]) -> &[u8]
         return &file[0..0];
     };
     let start = 26 + 2 * n;
-    let end = start + 2 * u;
+    let end = start + USE_WIDTH * u;
     &file[start..end]
 }
 
@@ -87,7 +88,7 @@ pub fn deps_body(file: &[u8]) -> &[u8]
     let Reading::Accepted(n, u, m) = r else {
         return &file[0..0];
     };
-    let start = 26 + 2 * n + 2 * u;
+    let start = 26 + 2 * n + USE_WIDTH * u;
     let end = start + 4 * m;
     &file[start..end]
 }

@@ -1,5 +1,7 @@
 // The parts of the reader, one for each part of the file. Internal: each asks that the bytes it reads are there, and answers
 // a number that the next part needs, or the first refusal that its part of document 01's table gives.
+use loop_access::LONGEST;
+use loop_access::USE_WIDTH;
 use loop_access::bytes::signed;
 use loop_access::bytes::wide;
 use loop_access::bytes::word;
@@ -9,7 +11,7 @@ ghost use mathlib.Core.Option.{none};
 ghost use Prim.Native.Nat.{_+_, _*_, _<_, _≤_};
 ghost use lib.ListN.{length};
 ghost use Rattle.model.specs.Refusals.{firstRefusal, settle};
-ghost use Rattle.model.specs.File.{wordAt, opCount, firstUse, lengthChecks, headChecks, standsAt, entryChecks, contentsChecks, opUseChecks, depChecks};
+ghost use Rattle.model.specs.File.{wordAt, useWidth, opCount, firstUse, lengthChecks, headChecks, standsAt, entryChecks, contentsChecks, opUseChecks, depChecksAt};
 ghost use Rattle.loop_file.specs.Read.{partOf, fourOf, sectionAs, opsTable, usesTable, depsTable, bodyChecks};
 
 // A number for the next part, or a refusal with its number and detail.
@@ -26,8 +28,8 @@ pub fn head(file: &[u8]) -> Part
     if n < 26 {
         return Part::Refused(1, n);
     }
-    if 1690 < n {
-        return Part::Refused(1, 1691);
+    if LONGEST < n {
+        return Part::Refused(1, LONGEST + 1);
     }
     if file[0] != 1 {
         return Part::Refused(2, 0);
@@ -96,7 +98,7 @@ pub fn contents(file: &[u8]) -> Part
     let Part::Fine(oper) = first else {
         return first;
     };
-    let second = entry(file, 10, b"USES", 26 + oper, 2, 0, 256);
+    let second = entry(file, 10, b"USES", 26 + oper, USE_WIDTH, 0, 256);
     let Part::Fine(uses) = second else {
         return second;
     };
@@ -134,13 +136,13 @@ pub fn ops(file: &[u8], n: usize) -> Part
 
 // Refusal 5, one operation: its n uses, from `first` on, each with a slot above the one before and a duration in range.
 pub fn op_uses(file: &[u8], first: usize, n: usize) -> Part
-    requires { ⌜ (first + 2 * n ≤ length (now file)) × (n < 256) ⌝ }
+    requires { ⌜ (first + useWidth * n ≤ length (now file)) × (n < 256) ⌝ }
     ensures { λ r. ⌜ partOf r ≡ settle (opUseChecks (now (file .entry)) first n) 0 ⌝ }
 {
     let mut below = 0;
     let mut j = 0;
     while j < n {
-        let at = first + 2 * j;
+        let at = first + USE_WIDTH * j;
         let slot = wide(file[at]);
         if slot <= below {
             return Part::Refused(5, at);
@@ -163,7 +165,7 @@ pub fn op_uses(file: &[u8], first: usize, n: usize) -> Part
 
 // Refusal 5: the uses of n operations, in a body that begins at `start`.
 pub fn uses(file: &[u8], start: usize, n: usize) -> Part
-    requires { ⌜ (26 + 2 * n ≤ length (now file)) × (n ≤ 64) × (start + 2 * firstUse (now file) n ≤ length (now file)) ⌝ }
+    requires { ⌜ (26 + 2 * n ≤ length (now file)) × (n ≤ 64) × (start + useWidth * firstUse (now file) n ≤ length (now file)) ⌝ }
     ensures { λ r. ⌜ partOf r ≡ settle (usesTable (now (file .entry)) start n) 0 ⌝ }
 {
     let mut first = start;
@@ -174,7 +176,7 @@ pub fn uses(file: &[u8], start: usize, n: usize) -> Part
         let Part::Fine(_) = one else {
             return one;
         };
-        first = first + 2 * k;
+        first = first + USE_WIDTH * k;
         o = o + 1;
     }
     Part::Fine(0)
@@ -183,7 +185,7 @@ pub fn uses(file: &[u8], start: usize, n: usize) -> Part
 // Refusal 6, one dependence between n operations, whose record stands at `at`.
 pub fn dep(file: &[u8], at: usize, n: usize) -> Part
     requires { ⌜ at + 4 ≤ length (now file) ⌝ }
-    ensures { λ r. ⌜ partOf r ≡ settle (depChecks (now (file .entry)) n at) 0 ⌝ }
+    ensures { λ r. ⌜ partOf r ≡ settle (depChecksAt (now (file .entry)) n at) 0 ⌝ }
 {
     if n <= wide(file[at]) {
         return Part::Refused(6, at);
@@ -233,7 +235,7 @@ pub fn bodies(file: &[u8]) -> Part
         return first;
     };
     let start = 26 + oper;
-    if uses_length != 2 * total {
+    if uses_length != USE_WIDTH * total {
         return Part::Refused(5, start);
     }
     let second = uses(file, start, n);

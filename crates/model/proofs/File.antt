@@ -16,7 +16,7 @@ use lib.Signed.{leZ, leZ-yes, _≤ℤ_}
 use Rattle.model.specs.Lists.{upFrom, sumOf}
 use Rattle.model.specs.Refusals.{firstRefusal}
 use Rattle.model.specs.Loop.{Use, Op, noUse, noOp, allUses, firstUseOf, noDep, size, opAt, depAt, useAt, UseOk, OpOk, DepOk, LoopOk}
-use Rattle.model.specs.File.{byteAt, Section, oper, uses, deps, lengthOf, recordsOf, endAt, opCount, depCount, opRecord, usesOf, firstUse, useRecord, depRecord, useIn, opIn, depIn, loopOf, lengthChecks, headChecks, entryChecks, contentsChecks, opChecks, slotBelow, useChecks, opUseChecks, usesChecks, depChecks, fileChecks, Accepted}
+use Rattle.model.specs.File.{byteAt, Section, useWidth, longest, oper, uses, deps, lengthOf, recordsOf, endAt, opCount, depCount, opRecord, usesOf, firstUse, useRecord, depRecord, useIn, opIn, depIn, loopOf, lengthChecks, headChecks, entryChecks, contentsChecks, opChecks, opChecksAt, slotBelow, useChecks, useChecksAt, opUseChecks, usesChecks, depChecks, depChecksAt, fileChecks, Accepted}
 use Rattle.model.proofs.Lists.{upFrom-snoc, upFrom-split, map-append, sum-append, length-tabulate, getD-tabulate, and-left, and-right, or-false-left, or-false-right}
 use Rattle.model.proofs.Checks.{passes-left, passes-right, passes-head, passes-tail, passes-each}
 
@@ -85,14 +85,14 @@ first-use-is f (suc o) h =
 -- what an accepted file's length, contents and counts obey
 pub record Layout (f : List ℕ) : Type 0 where
   pub long : 26 ≤ length f
-  pub short : length f ≤ 1690
+  pub short : length f ≤ longest
   pub version : byteAt f 0 ≡ 1
   pub oper-some : 1 ≤ opCount f
   pub oper-few : opCount f ≤ 64
   pub uses-few : recordsOf f uses ≤ 256
   pub deps-few : depCount f ≤ 256
   pub oper-whole : lengthOf f oper ≡ 2 * opCount f
-  pub uses-whole : lengthOf f uses ≡ 2 * firstUse f (opCount f)
+  pub uses-whole : lengthOf f uses ≡ useWidth * firstUse f (opCount f)
   pub deps-whole : lengthOf f deps ≡ 4 * depCount f
   pub ends : endAt f ≡ length f
 
@@ -104,9 +104,9 @@ record Passed (f : List ℕ) : Type 0 where
   of-length : firstRefusal (lengthChecks f) ≡ none
   of-head : firstRefusal (headChecks f) ≡ none
   of-contents : firstRefusal (contentsChecks f) ≡ none
-  of-ops : firstRefusal (flatMap (λ o. opChecks f (opRecord o)) (upFrom 0 (opCount f))) ≡ none
+  of-ops : firstRefusal (flatMap (λ o. opChecksAt f (opRecord o)) (upFrom 0 (opCount f))) ≡ none
   of-uses : firstRefusal (usesChecks f) ≡ none
-  of-deps : firstRefusal (flatMap (λ e. depChecks f (opCount f) (depRecord f e)) (upFrom 0 (depCount f))) ≡ none
+  of-deps : firstRefusal (flatMap (λ e. depChecksAt f (opCount f) (depRecord f e)) (upFrom 0 (depCount f))) ≡ none
 
 -- an accepted file passes each table
 passed : (f : List ℕ) → Accepted f → Passed f
@@ -200,9 +200,9 @@ use-passes f o j p l m =
     let all : firstRefusal (flatMap (λ q. opUseChecks f (useRecord f (firstUse f q)) (usesOf f q)) (upFrom 0 (opCount f))) ≡ none = search passing in
     let own : firstRefusal (opUseChecks f first (usesOf f o)) ≡ none =
     passes-each (λ q. opUseChecks f (useRecord f (firstUse f q)) (usesOf f q)) 0 (opCount f) o all (omega arith) (omega arith) in
-    let there : first + 2 * j ≡ at = omega arith in
-    let one : firstRefusal (useChecks f (slotBelow f first j) at) ≡ none =
-    rw there at (passes-each (λ k. useChecks f (slotBelow f first k) (first + 2 * k)) 0 (usesOf f o) j own (omega arith) (omega arith)) in
+    let there : first + useWidth * j ≡ at = omega arith in
+    let one : firstRefusal (useChecksAt f (slotBelow f first j) at) ≡ none =
+    rw there at (passes-each (λ k. useChecksAt f (slotBelow f first k) (first + useWidth * k)) 0 (usesOf f o) j own (omega arith) (omega arith)) in
     let above : slotBelow f first j < byteAt f at = search passing in
     let brief : byteAt f (at + 1) ≤ 16 = search passing in
     record { ok = record { slot-low = omega arith; slot-high = search passing; long = search passing; ends = omega arith }; above = above }
@@ -211,13 +211,13 @@ use-passes f o j p l m =
 op-passes : (f : List ℕ) (o : ℕ) → Passed f → o < opCount f → OpOk (opIn f o)
 unfolding opChecks
 op-passes f o p l =
-    let e : firstRefusal (opChecks f (opRecord o)) ≡ none = passes-each (λ q. opChecks f (opRecord q)) 0 (opCount f) o (p .of-ops) (omega arith) (omega arith) in
+    let e : firstRefusal (opChecksAt f (opRecord o)) ≡ none = passes-each (λ q. opChecksAt f (opRecord q)) 0 (opCount f) o (p .of-ops) (omega arith) (omega arith) in
     record {
       quick = search passing;
       few = rw uses-is (search passing);
       each = λ j m. let k : j < usesOf f o = rw uses-is at m in rw (use-is f o j k) (use-passes f o j p l k .ok);
       rising = λ j m. let k : suc j < usesOf f o = rw uses-is at m in let i : j < usesOf f o = omega arith in
-          let there : useRecord f (firstUse f o) + 2 * j ≡ useRecord f (firstUse f o + j) = omega arith in
+          let there : useRecord f (firstUse f o) + useWidth * j ≡ useRecord f (firstUse f o + j) = omega arith in
           rw (use-is f o j i, use-is f o (suc j) k) (rw there at (use-passes f o (suc j) p l k .above));
     }
 
@@ -229,7 +229,7 @@ leZ-true a b e = leZ-yes (subst T (sym e) tt)
 dep-passes : (f : List ℕ) (e : ℕ) → Passed f → e < depCount f → DepOk (opCount f) (depIn f e)
 unfolding depChecks
 dep-passes f e p l =
-    let c : firstRefusal (depChecks f (opCount f) (depRecord f e)) ≡ none = passes-each (λ d. depChecks f (opCount f) (depRecord f d)) 0 (depCount f) e (p .of-deps) (omega arith) (omega arith) in
+    let c : firstRefusal (depChecksAt f (opCount f) (depRecord f e)) ≡ none = passes-each (λ d. depChecksAt f (opCount f) (depRecord f d)) 0 (depCount f) e (p .of-deps) (omega arith) (omega arith) in
     search (passing, and-left, and-right, leZ-true)
 
 -- an accepted file's loop is in range

@@ -36,13 +36,21 @@ pub record Section : Type 0 where
   pub least : ℕ
   pub most : ℕ
 
+-- the bytes of a use's record: slot, duration
+abbrev pub useWidth : ℕ
+useWidth = 2
+
+-- the bytes of the longest file
+abbrev pub longest : ℕ
+longest = 1690
+
 -- the operations; the tag is "OPER"
 abbrev pub oper : Section
 oper = record { entry = 2; tag = 79 ∷ 80 ∷ 69 ∷ 82 ∷ []; width = 2; least = 1; most = 64 }
 
 -- the uses of all operations; the tag is "USES"
 abbrev pub uses : Section
-uses = record { entry = 10; tag = 85 ∷ 83 ∷ 69 ∷ 83 ∷ []; width = 2; least = 0; most = 256 }
+uses = record { entry = 10; tag = 85 ∷ 83 ∷ 69 ∷ 83 ∷ []; width = useWidth; least = 0; most = 256 }
 
 -- the dependences; the tag is "DEPS"
 abbrev pub deps : Section
@@ -99,9 +107,9 @@ unfoldable pub firstUse : List ℕ → ℕ → ℕ
 firstUse f zero = 0
 firstUse f (suc o) = firstUse f o + usesOf f o
 
--- where the record of use u of all stands: slot, then duration
+-- where the record of use u of all stands
 abbrev pub useRecord : List ℕ → ℕ → ℕ
-useRecord f u = usesAt f + 2 * u
+useRecord f u = usesAt f + useWidth * u
 
 -- where the record of dependence e stands: from, to, delay, distance
 abbrev pub depRecord : List ℕ → ℕ → ℕ
@@ -130,11 +138,46 @@ depIn f e = record {
 unfoldable pub loopOf : List ℕ → Loop
 loopOf f = record { ops = map (opIn f) (upFrom 0 (opCount f)); deps = map (depIn f) (upFrom 0 (depCount f)) }
 
+-- ---- what a record is refused for, by its values: 4, 5 and 6. The detail of each value is given with it
+
+-- z is not one of 0 .. most
+abbrev pub notUpTo : ℕ → ℤ → Bool
+notUpTo most (pos n) = ltb most n
+notUpTo most (negsuc n) = true
+
+-- z is not one of 0 .. n - 1
+abbrev pub notBelow : ℕ → ℤ → Bool
+notBelow n (pos m) = leb n m
+notBelow n (negsuc m) = true
+
+-- z is not one of below + 1 .. most
+abbrev pub notBetween : (below most : ℕ) → ℤ → Bool
+notBetween below most (pos n) = leb n below || ltb most n
+notBetween below most (negsuc n) = true
+
+-- 4: latency 0 to 64, and number of uses 0 to 4
+unfoldable pub opChecks : (latency uses : ℤ) (latency-at uses-at : ℕ) → List Check
+opChecks latency uses latency-at uses-at = check (notUpTo 64 latency) 4 latency-at ∷ check (notUpTo 4 uses) 4 uses-at ∷ []
+
+-- 5: slot 1 to 24 and above `below`, that of the operation's use before, and duration 1 to 16
+unfoldable pub useChecks : (below : ℕ) (slot duration : ℤ) (slot-at duration-at : ℕ) → List Check
+useChecks below slot duration slot-at duration-at =
+    check (notBetween below 24 slot) 5 slot-at ∷ check (notBetween 0 16 duration) 5 duration-at ∷ []
+
+-- 6: source and target of the n operations, delay -64 to 64 and distance 0 to 15
+unfoldable pub depChecks : (n : ℕ) (src dst delay distance : ℤ) (src-at dst-at delay-at distance-at : ℕ) → List Check
+depChecks n src dst delay distance src-at dst-at delay-at distance-at =
+    check (notBelow n src) 6 src-at
+    ∷ check (notBelow n dst) 6 dst-at
+    ∷ check (not (leZ (negsuc 63) delay && leZ delay (pos 64))) 6 delay-at
+    ∷ check (notUpTo 15 distance) 6 distance-at
+    ∷ []
+
 -- ---- what a file is refused for (document 01's table, 1 to 6), in file order
 
 -- 1: the file's length
 unfoldable pub lengthChecks : List ℕ → List Check
-lengthChecks f = check (ltb (length f) 26 || ltb 1690 (length f)) 1 (min (length f) 1691) ∷ []
+lengthChecks f = check (ltb (length f) 26 || ltb longest (length f)) 1 (min (length f) (longest + 1)) ∷ []
 
 -- 2: the version, then the number of entries
 unfoldable pub headChecks : List ℕ → List Check
@@ -160,25 +203,26 @@ contentsChecks f =
     entryChecks f oper operAt ++ entryChecks f uses (usesAt f) ++ entryChecks f deps (depsAt f)
     ++ (check (not (eqb (endAt f) (length f))) 3 (deps .entry) ∷ [])
 
--- 4: latency 0 to 64, and number of uses 0 to 4, of the operation whose record stands at `at`
-unfoldable pub opChecks : List ℕ → ℕ → List Check
-opChecks f at = check (ltb 64 (byteAt f at)) 4 at ∷ check (ltb 4 (byteAt f (at + 1))) 4 (at + 1) ∷ []
+-- byte i as a value
+abbrev pub valueAt : List ℕ → ℕ → ℤ
+valueAt f i = pos (byteAt f i)
 
--- 5: slot 1 to 24 and above `below`, and duration 1 to 16, of the use whose record stands at `at`
-unfoldable pub useChecks : List ℕ → ℕ → ℕ → List Check
-useChecks f below at =
-    check (leb (byteAt f at) below || ltb 24 (byteAt f at)) 5 at
-    ∷ check (ltb (byteAt f (at + 1)) 1 || ltb 16 (byteAt f (at + 1))) 5 (at + 1)
-    ∷ []
+-- 4: the operation whose record stands at `at`
+abbrev pub opChecksAt : List ℕ → ℕ → List Check
+opChecksAt f at = opChecks (valueAt f at) (valueAt f (at + 1)) at (at + 1)
+
+-- 5: the use whose record stands at `at`
+abbrev pub useChecksAt : List ℕ → ℕ → ℕ → List Check
+useChecksAt f below at = useChecks below (valueAt f at) (valueAt f (at + 1)) at (at + 1)
 
 -- the slot that use j of an operation has to be above, where the first stands at `at`: that of the use before, 0 where there is none
 abbrev pub slotBelow : List ℕ → ℕ → ℕ → ℕ
 slotBelow f at zero = 0
-slotBelow f at (suc j) = byteAt f (at + 2 * j)
+slotBelow f at (suc j) = byteAt f (at + useWidth * j)
 
 -- 5: the uses of an operation, `n` of them from `at` on
 unfoldable pub opUseChecks : List ℕ → ℕ → ℕ → List Check
-opUseChecks f at n = flatMap (λ j. useChecks f (slotBelow f at j) (at + 2 * j)) (upFrom 0 n)
+opUseChecks f at n = flatMap (λ j. useChecksAt f (slotBelow f at j) (at + useWidth * j)) (upFrom 0 n)
 
 -- 5: the length of the body, at its start; then operation by operation, use by use
 unfoldable pub usesChecks : List ℕ → List Check
@@ -186,22 +230,18 @@ usesChecks f =
     check (not (eqb (lengthOf f uses) (uses .width * firstUse f (opCount f)))) 5 (usesAt f)
     ∷ flatMap (λ o. opUseChecks f (useRecord f (firstUse f o)) (usesOf f o)) (upFrom 0 (opCount f))
 
--- 6: from and to below n, delay -64 to 64 and distance 0 to 15 of the dependence whose record stands at `at`
-unfoldable pub depChecks : List ℕ → ℕ → ℕ → List Check
-depChecks f n at =
-    check (leb n (byteAt f at)) 6 at
-    ∷ check (leb n (byteAt f (at + 1))) 6 (at + 1)
-    ∷ check (not (leZ (negsuc 63) (signedByte (byteAt f (at + 2))) && leZ (signedByte (byteAt f (at + 2))) (pos 64))) 6 (at + 2)
-    ∷ check (ltb 15 (byteAt f (at + 3))) 6 (at + 3)
-    ∷ []
+-- 6: the dependence of n operations whose record stands at `at`
+abbrev pub depChecksAt : List ℕ → ℕ → ℕ → List Check
+depChecksAt f n at =
+    depChecks n (valueAt f at) (valueAt f (at + 1)) (signedByte (byteAt f (at + 2))) (valueAt f (at + 3)) at (at + 1) (at + 2) (at + 3)
 
 -- 1 to 6
 unfoldable pub fileChecks : List ℕ → List Check
 fileChecks f =
     lengthChecks f ++ headChecks f ++ contentsChecks f
-    ++ flatMap (λ o. opChecks f (opRecord o)) (upFrom 0 (opCount f))
+    ++ flatMap (λ o. opChecksAt f (opRecord o)) (upFrom 0 (opCount f))
     ++ usesChecks f
-    ++ flatMap (λ e. depChecks f (opCount f) (depRecord f e)) (upFrom 0 (depCount f))
+    ++ flatMap (λ e. depChecksAt f (opCount f) (depRecord f e)) (upFrom 0 (depCount f))
 
 -- ---- what the reader answers
 

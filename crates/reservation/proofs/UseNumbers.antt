@@ -5,7 +5,7 @@ use Prim.Native.Nat.{ℕ, _+_, _<_}
 use native.Mathlib.Omega.{arith}
 use lib.ListN.{length, getD}
 use Rattle.model.specs.Loop.{noUse, size, opAt, useAt, allUses, firstUseOf}
-use Rattle.model.specs.File.{loopOf, Accepted}
+use Rattle.model.specs.File.{longest, loopOf, Accepted}
 use Rattle.model.proofs.File.{layout}
 use Rattle.model.proofs.Loop.{use-among, use-within}
 use Rattle.loop_access.proofs.Records.{use-read}
@@ -13,7 +13,7 @@ use Rattle.loop_access.proofs.Records.{use-read}
 -- number u is that of a use, inside the file, and stands for use j of operation o
 pub record UseHere (f : List ℕ) (o j u : ℕ) : Type 0 where
   pub inside : u < length (allUses (loopOf f))
-  pub small : u < 1690
+  pub small : u < longest
   pub is : getD (allUses (loopOf f)) u noUse ≡ useAt (opAt (loopOf f) o) j
 
 -- what the number of the first use and the count of the uses give

@@ -10,7 +10,7 @@ use lib.ListN.{length, take, drop, replicate, length-replicate, length-append, l
 use lib.Seq.{take-at}
 use Rattle.model.specs.Refusals.{Refusal, firstRefusal, Answer, answered, refused, settled, Check, range, lent}
 use Rattle.model.specs.Loop.{size}
-use Rattle.model.specs.File.{loopOf, Accepted, fileChecks}
+use Rattle.model.specs.File.{longest, loopOf, Accepted, fileChecks}
 use Rattle.model.specs.Session.{Setup, Starts, openChecks, openFile, openRows, start}
 use Rattle.model.proofs.File.{layout}
 use Rattle.model.proofs.Lists.{getD-filled}
@@ -63,7 +63,7 @@ module _ (f : List ℕ) (ii h : ℕ) (rows : List ℕ) where
     unfolding openChecks
     open-accepted = passes-left (fileChecks f) numbers e
 
-    pub open-short : length f ≤ 1690
+    pub open-short : length f ≤ longest
     open-short = layout f open-accepted .short
 
     numbers-pass : firstRefusal numbers ≡ none
@@ -82,7 +82,7 @@ module _ (f : List ℕ) (ii h : ℕ) (rows : List ℕ) where
     pub open-room : ii ≤ length rows
     open-room = ltb-false (length rows) ii (passes-head _ _ (passes-tail _ _ (passes-tail _ _ numbers-pass)))
 
-    module _ (old store rows′ : List ℕ) (whole : length old ≡ 1690) (copied : store ≡ f ++ drop (length f) old) (clear : rows′ ≡ replicate ii 0 ++ drop ii rows) where
+    module _ (old store rows′ : List ℕ) (whole : length old ≡ longest) (copied : store ≡ f ++ drop (length f) old) (clear : rows′ ≡ replicate ii 0 ++ drop ii rows) where
       -- the session that is opened
       abbrev opened : Session
       opened = record { file = store; length = length f; interval = ii; horizon = h; starts = blank; marks = 0; saved = replicate 16 blank }
@@ -148,5 +148,5 @@ module _ (f : List ℕ) (ii h : ℕ) (rows : List ℕ) where
                 kept = λ i l. absurd (not-suc-le-zero l);
               }
             where
-              lengths : length f + length (drop (length f) old) ≡ 1690
+              lengths : length f + length (drop (length f) old) ≡ longest
               lengths = omega (arith, length-drop (length f) old, open-short, whole)

@@ -5,7 +5,7 @@ use Prim.Native.Nat.{ℕ, _≤_, _<_}
 use lib.ListN.{length, getD, take, drop, replicate}
 use Rattle.model.specs.Refusals.{Refusal, Answer, answered, refused}
 use Rattle.model.specs.Loop.{size}
-use Rattle.model.specs.File.{loopOf}
+use Rattle.model.specs.File.{longest, loopOf}
 use Rattle.model.specs.Session.{Setup, State, Call, stateTable, openFile, openRows, start, step}
 use Rattle.board.specs.Board.{startsOf, setupAs, Sane, Board}
 use Rattle.board.specs.Moves.{replyOf}
@@ -41,8 +41,8 @@ blank = record { at = replicate 64 65535 }
 
 -- the arrays are whole, the rows are the table of the starts, and each open checkpoint's starts are sane
 pub record Valid (s : Session) (rows : List ℕ) : Type 0 where
-  pub stored : length (s .file) ≡ 1690
-  pub fits-in : s .length ≤ 1690
+  pub stored : length (s .file) ≡ longest
+  pub fits-in : s .length ≤ longest
   pub saved-all : length (s .saved) ≡ 16
   pub few : s .marks ≤ 16
   pub board : Board (fileOf s) (s .interval) (s .horizon) (s .starts .at) rows
@@ -63,7 +63,7 @@ pub record Stepped (c : Call) (s : Session) (rows : List ℕ) (s′ : Session) (
 
 -- the session of nothing, which a refused opening hands out
 unfoldable pub closedSession : Session
-closedSession = record { file = replicate 1690 0; length = 0; interval = 0; horizon = 0; starts = blank; marks = 0; saved = replicate 16 blank }
+closedSession = record { file = replicate longest 0; length = 0; interval = 0; horizon = 0; starts = blank; marks = 0; saved = replicate 16 blank }
 
 -- what opening says
 abbrev pub openingOf : Session → Checked → Answer Setup

@@ -5,6 +5,7 @@ mod store;
 
 pub use board::Reply;
 use board::moves;
+use loop_access::LONGEST;
 pub use refusals::Checked;
 use reservation::clear::clear_rows;
 ghost use mathlib.Core.Path.{_≡_};
@@ -18,7 +19,7 @@ pub struct OpStarts {
 
 // What a session holds: a copy of its file and how long that is; the interval and the horizon; the starts; how many checkpoints are open (document 01: marks), and the starts of each.
 pub struct Session {
-    pub file: [u8; 1690],
+    pub file: [u8; LONGEST],
     pub length: usize,
     pub interval: usize,
     pub horizon: usize,
@@ -71,7 +72,7 @@ fn closed() -> Session
 {
     let blank = OpStarts { at: [65535u16; 64] };
     Session {
-        file: [0u8; 1690],
+        file: [0u8; LONGEST],
         length: 0,
         interval: 0,
         horizon: 0,

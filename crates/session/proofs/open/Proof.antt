@@ -5,6 +5,7 @@ use Prim.Native.Nat.{ℕ}
 use native.Mathlib.Omega.{arith}
 use lib.ListN.{length, replicate, length-replicate}
 use Rattle.model.specs.Refusals.{firstRefusal}
+use Rattle.model.specs.File.{longest}
 use Rattle.model.specs.Session.{openChecks}
 use Rattle.refusals.specs.Checked.{refusalOf}
 use Rattle.session.specs.View.{blank, closedSession}
@@ -40,9 +41,9 @@ fine : (c : tie.After-enum-told) → let a = start (c .before .before) .args in 
 fine c = sym (c .before .before .openable .ensures) ∙ ap refusalOf (c .enum-told .given .1)
 
 -- the store has room for every file
-whole : (c : tie.After-openable) → length (c .before .closed .result .file) ≡ 1690
+whole : (c : tie.After-openable) → length (c .before .closed .result .file) ≡ longest
 unfolding closedSession
-whole c = ap (λ (s : Session). length (s .file)) (c .before .closed .ensures) ∙ length-replicate {A = ℕ} 1690 0
+whole c = ap (λ (s : Session). length (s .file)) (c .before .closed .ensures) ∙ length-replicate {A = ℕ} longest 0
 
 -- and nothing is in it
 closed-starts : (c : tie.After-openable) → c .before .closed .result .starts ≡ blank

@@ -1,20 +1,23 @@
 -- `reader::head` meets its contract: at each return the tests on the way settle the table of checks. Assumes nothing.
-use Prim.Native.Nat.{_≤_}
+use Prim.Native.Nat.{_+_, _≤_}
 use native.Mathlib.Nat.{min-eq-left, min-eq-right}
 use native.Mathlib.Omega.{arith}
 use lib.ListN.{length}
 use borrow.Author.Needs.{needs}
 use borrow.Author.Tests.{lt-ltb, le-ltb, eq-eqb, ne-eqb}
 use Rattle.model.specs.Refusals.{firstRefusal}
-use Rattle.model.specs.File.{lengthChecks, headChecks}
+use Rattle.model.specs.File.{longest, lengthChecks, headChecks}
 use Rattle.loop_file.proofs.reader.head.Statement.{statement}
 use Rattle.loop_file.proofs.reader.head.Tie as tie
 
 returns : tie.Need-returns
 unfolding firstRefusal lengthChecks headChecks
 returns c =
-    let short : length (c .before .args .file .now) ≤ 1691 = omega arith in
+    let short : length (c .before .args .file .now) ≤ longest + 1 = omega arith in
     search (lt-ltb, min-eq-left)
+
+add-t4 : tie.Need-add-t4
+add-t4 c = search needs
 
 returns-2 : tie.Need-returns-2
 unfolding firstRefusal lengthChecks headChecks
@@ -43,6 +46,7 @@ head-spec =
     tie.close
     (tie.spec
     returns
+    add-t4
     returns-2
     shared-slice-read-if3
     returns-3

@@ -9,7 +9,7 @@ use native.Mathlib.Numerals.{add-one}
 use lib.Dec.{leb, ltb}
 use borrow.Author.Tests.{lt-ltb, le-ltb, le-leb, lt-leb}
 use Rattle.model.specs.Refusals.{firstRefusal}
-use Rattle.model.specs.File.{byteAt, slotBelow, useChecks, opUseChecks}
+use Rattle.model.specs.File.{byteAt, useWidth, slotBelow, useChecks, opUseChecks}
 use Rattle.model.proofs.Checks.{row-next}
 use Rattle.loop_file.proofs.Tables.{row-start, refused-at, passed-all}
 use Rattle.loop_file.proofs.reader.op_uses.Statement.{statement}
@@ -65,7 +65,7 @@ add-t14 c = omega arith
 -- after the slot's two tests its check does not fail
 slot-right : (c : tie.Else2 Inv-loop μ-loop) → let a = c .before .before .before .before .before .before .before .args in
     let j = c .before .before .before .before .before .loop .j in
-    let slot = byteAt (a .file .now) (a .first + 2 * j) in
+    let slot = byteAt (a .file .now) (a .first + useWidth * j) in
     (leb slot (slotBelow (a .file .now) (a .first) j) || ltb 24 slot) ≡ false
 slot-right c =
     let l = c .before .before .before .before .before .loop in
@@ -75,7 +75,7 @@ returns-3 : tie.Need-returns-3 Inv-loop μ-loop
 unfolding opUseChecks useChecks firstRefusal
 returns-3 c =
     let l = c .before .before .before .before .before .before .before .before .loop in
-    refused-at _ (l .j) _ _ (omega arith) (l .inv .2) (rw (slot-right (c .before .before .before), ← c .before .wide2 .ensures .0, lt-ltb _ _ (c .if3 .taken)))
+    refused-at _ (l .j) _ _ (omega arith) (l .inv .2) (rw (slot-right (c .before .before .before), ← c .before .wide2 .ensures .0, le-leb (c .before .wide2 .result) 0 (omega (arith, c .if3 .taken))))
 
 add-t15 : tie.Need-add-t15 Inv-loop μ-loop
 add-t15 c = omega arith
@@ -85,7 +85,7 @@ unfolding opUseChecks useChecks firstRefusal
 returns-4 c =
     let l = c .before .before .before .before .before .before .before .before .before .loop in
     refused-at _ (l .j) _ _ (omega arith) (l .inv .2)
-    (rw (slot-right (c .before .before .before .before), ← c .before .before .wide2 .ensures .0, le-ltb _ _ (c .before .if3 .left), lt-ltb _ _ (c .if4 .taken)))
+    (rw (slot-right (c .before .before .before .before), ← c .before .before .wide2 .ensures .0, lt-leb (c .before .before .wide2 .result) 0 (c .before .if3 .left), lt-ltb _ _ (c .if4 .taken)))
 
 add-j : tie.Need-add-j Inv-loop μ-loop
 add-j c = omega arith
@@ -100,7 +100,7 @@ loop-again c =
       omega arith,
       rw (add-one (l .j)) (c .before .before .before .before .before .before .wide .ensures .0),
       row-next _ (l .j) (l .inv .2)
-          (rw (slot-right (c .before .before .before .before), ← c .before .before .wide2 .ensures .0, le-ltb _ _ (c .before .if3 .left), le-ltb _ _ (c .if4 .left))),
+          (rw (slot-right (c .before .before .before .before), ← c .before .before .wide2 .ensures .0, lt-leb (c .before .before .wide2 .result) 0 (c .before .if3 .left), le-ltb _ _ (c .if4 .left))),
     )
 
 returns-5 : tie.Need-returns-5 Inv-loop μ-loop
