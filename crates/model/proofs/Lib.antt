@@ -12,6 +12,7 @@ pub mod Delays
 pub mod StartLists
 pub mod Legality
 pub mod Table
+pub mod Cells
 pub mod Conflicts
 pub mod Bounds
 pub mod Answers

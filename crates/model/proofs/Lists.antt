@@ -5,6 +5,7 @@ use mathlib.Core.List.{List, [], _∷_, _++_, map, flatMap, append-nil, append-a
 use mathlib.Core.Option.{none, some}
 use Prim.Native.Nat.{ℕ, zero, suc, _+_, _-_, _≤_, _<_}
 use native.Mathlib.Nat.{add-zero, zero-add, suc-add, le-of-suc-le-suc, not-suc-le-zero}
+use native.Mathlib.Numerals.{add-one}
 use native.Mathlib.Decide.{ℕ-discrete}
 use native.Mathlib.Omega.{arith}
 use lib.ListN.{length, getD, take, drop, replicate, take-append-drop}
@@ -343,6 +344,24 @@ count-yes p n e = count-next p n ∙ rw e
 
 pub count-no : (p : ℕ → Bool) (n : ℕ) → p n ≡ false → countIf p (upFrom 0 (n + 1)) ≡ countIf p (upFrom 0 n)
 count-no p n e = count-next p n ∙ rw e (omega arith)
+
+-- before a number that passes there are fewer
+pub count-before : (p : ℕ → Bool) (k n : ℕ) → k < n → p k ≡ true → countIf p (upFrom 0 k) + 1 ≤ countIf p (upFrom 0 n)
+unfolding countIf
+count-before p k n l e =
+    let z : k - 0 ≡ k = omega arith in
+    omega (arith, rw (z, e) at (ap (countIf p) (row-around 0 n k (omega arith) (omega arith)) ∙ count-append p (upFrom 0 (k - 0)) (k ∷ upFrom (suc k) (0 + n - suc k))))
+
+-- and before the last that does, one fewer
+pub count-last : (p : ℕ → Bool) (n : ℕ) → 1 ≤ countIf p (upFrom 0 n) → (k : ℕ) × (k < n) × (p k ≡ true) × (countIf p (upFrom 0 n) ≡ countIf p (upFrom 0 k) + 1)
+unfolding countIf upFrom
+count-last p zero h = absurd (omega arith)
+count-last p (suc n) h = pick (p n) refl (count-last p n)
+  where
+    pick : (b : Bool) → p n ≡ b → (1 ≤ countIf p (upFrom 0 n) → (k : ℕ) × (k < n) × (p k ≡ true) × (countIf p (upFrom 0 n) ≡ countIf p (upFrom 0 k) + 1))
+        → (k : ℕ) × (k < suc n) × (p k ≡ true) × (countIf p (upFrom 0 (suc n)) ≡ countIf p (upFrom 0 k) + 1)
+    pick true q ih = (n, omega arith, q, rw (add-one n) at (count-yes p n q))
+    pick false q ih = let e = rw (add-one n) at (count-no p n q) in let w = ih (omega arith) in (w .0, omega (arith, w .1), w .2, e ∙ w .3)
 
 -- two sums over a row that agree term by term
 pub sum-same : (f g : ℕ → ℕ) (a n : ℕ) → ((k : ℕ) → a ≤ k → k < a + n → f k ≡ g k) → sumOf f (upFrom a n) ≡ sumOf g (upFrom a n)

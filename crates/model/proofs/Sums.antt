@@ -1,9 +1,10 @@
 -- Laws of sums and of largest numbers. Assumes nothing.
 use mathlib.Core.Path.{_≡_, refl, sym, ap, ap₂, _∙_}
+use mathlib.Core.Bool.{Bool, cond}
 use mathlib.Core.List.{List, [], _∷_, _++_, flatMap}
 use Prim.Native.Nat.{ℕ, zero, suc, _+_, _*_, _≤_, _<_, max}
 use native.Mathlib.Omega.{arith}
-use Rattle.model.specs.Lists.{upFrom, sumOf, maxOf}
+use Rattle.model.specs.Lists.{upFrom, countIf, sumOf, maxOf}
 use Rattle.model.proofs.Lists.{upFrom-split, sum-append, sum-add}
 
 module _ {A B : Type 0} where
@@ -22,6 +23,12 @@ module _ {A B : Type 0} where
       zeros [] = refl
       zeros (y ∷ ys) = omega (arith, zeros ys)
   sum-swap f (x ∷ xs) ys = ap (λ (n : ℕ). sumOf (f x) ys + n) (sum-swap f xs ys) ∙ sym (sum-add (f x) (λ y. sumOf (λ z. f z y) xs) ys)
+
+-- a count is a sum of ones
+pub count-sum : {A : Type 0} (p : A → Bool) (xs : List A) → countIf p xs ≡ sumOf (λ x. cond (p x) 1 0) xs
+unfolding countIf sumOf
+count-sum p [] = refl
+count-sum p (x ∷ xs) = ap (λ (n : ℕ). cond (p x) 1 0 + n) (count-sum p xs)
 
 -- a row with one number more
 pub sum-next : (f : ℕ → ℕ) (n : ℕ) → sumOf f (upFrom 0 (n + 1)) ≡ sumOf f (upFrom 0 n) + f n

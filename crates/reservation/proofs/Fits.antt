@@ -6,7 +6,7 @@ use mathlib.Core.List.{List, map, flatMap}
 use mathlib.Core.Option.{none}
 use Prim.Native.Nat.{ℕ, _+_, _-_, _%_, _≤_, _<_}
 use native.Mathlib.Decide.{decLt}
-use native.Mathlib.Nat.{mod-lt}
+use native.Mathlib.Nat.{add-assoc, mod-lt}
 use native.Mathlib.Omega.{arith}
 use lib.Dec.{eqb, leb, ltb}
 use lib.ListN.{length, getD}
@@ -73,16 +73,18 @@ module _ (ii : ℕ) (cells : List Cell) (rows : List ℕ) (t : IsTable 2 ii cell
 
   -- nothing taken: no cell is one of the table's
   pub free-apart : firstTaken ii rows s (p .uses) ≡ none → share (footprint ii p s) cells ≡ false
-  free-apart e = cells-apart (footprint ii p s) cells (λ a r h. go a r (cell-hit ii p s a r h))
+  free-apart e = cells-apart (footprint ii p s) cells (λ a r h. go a r (cell-hit ii p s ok a r h))
     where
-      go : (a r : ℕ) → ((k : ℕ) × (j : ℕ) × Hit ii p s a r k j) → countOf a r cells ≡ 0
-      go a r (k, j, h) =
+      go : (a r : ℕ) → ((j : ℕ) × (i : ℕ) × Hit ii p s a r j i) → countOf a r cells ≡ 0
+      go a r (j, i, h) =
+          let k : ℕ = useAt p j .offset + i in
+          let row : (s + k) % ii ≡ r = ap (λ (n : ℕ). n % ii) (sym (add-assoc s (useAt p j .offset) i)) ∙ h .row in
           let b : k < 16 = omega (arith, ok .each j (h .inside) .ends, h .going) in
           let q : (covers k (useAt p j) && (eqb (digitOf 2 (getD rows ((s + k) % ii) 0) (useAt p j .slot)) 1 || leb (useAt p j .offset + ii) k)) ≡ false = taken-each ii rows s (p .uses) e k j b (h .inside) in
-          let v : covers k (useAt p j) ≡ true = covered j k (h .begun) (h .going) in
+          let v : covers k (useAt p j) ≡ true = covered j k (omega arith) (omega (arith, h .going)) in
           let w : (eqb (digitOf 2 (getD rows ((s + k) % ii) 0) (useAt p j .slot)) 1 || leb (useAt p j .offset + ii) k) ≡ false = rw v at q in
           let y : eqb (digitOf 2 (getD rows ((s + k) % ii) 0) (useAt p j .slot)) 1 ≡ false = or-false-left (eqb (digitOf 2 (getD rows ((s + k) % ii) 0) (useAt p j .slot)) 1) (leb (useAt p j .offset + ii) k) w in
-          let c : countOf (useAt p j .slot) ((s + k) % ii) cells ≡ countOf a r cells = ap (λ (x : ℕ). countOf x ((s + k) % ii) cells) (h .slot) ∙ ap (λ (x : ℕ). countOf a x cells) (h .row) in
+          let c : countOf (useAt p j .slot) ((s + k) % ii) cells ≡ countOf a r cells = ap (λ (x : ℕ). countOf x ((s + k) % ii) cells) (h .slot) ∙ ap (λ (x : ℕ). countOf a x cells) row in
           let n : countOf a r cells ≡ 1 → ⊥ = λ o. eqb-false (digitOf 2 (getD rows ((s + k) % ii) 0) (useAt p j .slot)) 1 y (bit-count j k (h .inside) ∙ c ∙ o) in
           omega (arith, d a r)
 
@@ -96,8 +98,9 @@ module _ (ii : ℕ) (cells : List Cell) (rows : List ℕ) (t : IsTable 2 ii cell
 
       clear : (k j : ℕ) → j < length (p .uses) → useAt p j .offset ≤ k → k < useAt p j .offset + useAt p j .duration → eqb (digitOf 2 (getD rows ((s + k) % ii) 0) (useAt p j .slot)) 1 ≡ false
       clear k j m a b =
-          let h : Hit ii p s (useAt p j .slot) ((s + k) % ii) k j = record { inside = m; slot = refl; begun = a; going = b; row = refl } in
-          let c : countOf (useAt p j .slot) ((s + k) % ii) cells ≡ 0 = apart-cells (footprint ii p s) cells apart (useAt p j .slot) ((s + k) % ii) (hit-cell ii p s (useAt p j .slot) ((s + k) % ii) k j ok h) in
+          let e : s + useAt p j .offset + (k - useAt p j .offset) ≡ s + k = omega arith in
+          let h : Hit ii p s (useAt p j .slot) ((s + k) % ii) j (k - useAt p j .offset) = record { inside = m; slot = refl; going = omega arith; row = ap (λ (n : ℕ). n % ii) e } in
+          let c : countOf (useAt p j .slot) ((s + k) % ii) cells ≡ 0 = apart-cells (footprint ii p s) cells apart (useAt p j .slot) ((s + k) % ii) (hit-cell ii p s ok (useAt p j .slot) ((s + k) % ii) j (k - useAt p j .offset) h) in
           ap (λ (x : ℕ). eqb x 1) (bit-count j k m ∙ c)
 
       go : (k j : ℕ) → k < 16 → j < length (p .uses) → Dec (k < useAt p j .offset) → Dec (k < useAt p j .offset + useAt p j .duration) → takenAt ii rows s k (useAt p j) ≡ false

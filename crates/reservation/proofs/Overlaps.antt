@@ -2,7 +2,7 @@
 use mathlib.Core.Path.{_≡_, refl, sym, ap, _∙_}
 use mathlib.Core.Bool.{Bool, true, false, _&&_}
 use mathlib.Core.List.{List}
-use Prim.Native.Nat.{ℕ, _+_, _-_, _%_, _≤_, _<_}
+use Prim.Native.Nat.{ℕ, _+_, _%_, _≤_, _<_}
 use native.Mathlib.Decide.{ℕ-discrete}
 use native.Mathlib.Omega.{arith}
 use lib.Dec.{eqb, ltb}
@@ -41,36 +41,33 @@ usePass ii s slot row u = eqb (u .slot) slot && ltb (cycleOf ii (s + u .offset) 
 
 module _ (ii : ℕ) (pos : 1 ≤ ii) (p : Op) (ok : OpOk p) (s : ℕ) where
   -- a use that passes covers the cell
-  test-hit : (slot row j : ℕ) → row < ii → j < length (p .uses) → usePass ii s slot row (useAt p j) ≡ true → Hit ii p s slot row (useAt p j .offset + cycleOf ii (s + useAt p j .offset) row) j
+  test-hit : (slot row j : ℕ) → row < ii → j < length (p .uses) → usePass ii s slot row (useAt p j) ≡ true → Hit ii p s slot row j (cycleOf ii (s + useAt p j .offset) row)
   test-hit slot row j l m e =
       let u : Use = useAt p j in
       let c : ℕ = cycleOf ii (s + u .offset) row in
-      let g : s + (u .offset + c) ≡ s + u .offset + c = omega arith in
       record {
         inside = m;
         slot = eqb-true (u .slot) slot (and-left (eqb (u .slot) slot) (ltb c (u .duration)) e);
-        begun = omega arith;
-        going = omega (arith, ltb-true c (u .duration) (and-right (eqb (u .slot) slot) (ltb c (u .duration)) e));
-        row = ap (λ (n : ℕ). n % ii) g ∙ cycle-row ii (s + u .offset) row pos l;
+        going = ltb-true c (u .duration) (and-right (eqb (u .slot) slot) (ltb c (u .duration)) e);
+        row = cycle-row ii (s + u .offset) row pos l;
       }
 
   -- and one that covers it passes
-  hit-test : (slot row k j : ℕ) → Hit ii p s slot row k j → usePass ii s slot row (useAt p j) ≡ true
-  hit-test slot row k j h =
+  hit-test : (slot row j i : ℕ) → Hit ii p s slot row j i → usePass ii s slot row (useAt p j) ≡ true
+  hit-test slot row j i h =
       let u : Use = useAt p j in
-      let g : s + u .offset + (k - u .offset) ≡ s + k = omega (arith, h .begun) in
-      let c : cycleOf ii (s + u .offset) row ≤ k - u .offset = cycle-first ii (s + u .offset) row (k - u .offset) pos (ap (λ (n : ℕ). n % ii) g ∙ h .row) in
-      rw (eq-eqb (u .slot) slot (h .slot)) (lt-ltb (cycleOf ii (s + u .offset) row) (u .duration) (omega (arith, h .going, h .begun)))
+      rw (eq-eqb (u .slot) slot (h .slot))
+      (lt-ltb (cycleOf ii (s + u .offset) row) (u .duration) (omega (arith, h .going, cycle-first ii (s + u .offset) row i pos (h .row))))
 
   -- an operation covers the slot in the row exactly where one of its uses does
   pub covers-uses : (slot row : ℕ) → row < ii → coversCell ii p s slot row ≡ anyOf (usePass ii s slot row) (p .uses)
   unfolding coversCell
   covers-uses slot row l =
       same-true (anyOf (sameCell (record { slot = slot; row = row })) (footprint ii p s)) (anyOf (usePass ii s slot row) (p .uses))
-      (λ e. let w = cell-hit ii p s slot row (any-cell slot row (footprint ii p s) e) in
-      some-any (usePass ii s slot row) (p .uses) noUse (w .1) (w .2 .inside) (hit-test slot row (w .0) (w .1) (w .2)))
+      (λ e. let w = cell-hit ii p s ok slot row (any-cell slot row (footprint ii p s) e) in
+      some-any (usePass ii s slot row) (p .uses) noUse (w .0) (w .2 .inside) (hit-test slot row (w .0) (w .1) (w .2)))
       (λ e. let w = any-some (usePass ii s slot row) (p .uses) noUse e in
-      cell-any slot row (footprint ii p s) (hit-cell ii p s slot row (useAt p (w .0) .offset + cycleOf ii (s + useAt p (w .0) .offset) row) (w .0) ok (test-hit slot row (w .0) l (w .1) (w .2))))
+      cell-any slot row (footprint ii p s) (hit-cell ii p s ok slot row (w .0) _ (test-hit slot row (w .0) l (w .1) (w .2))))
 
 -- of a use v that is read as u, of slot x, offset y and duration z
 module _ (ii s slot row : ℕ) (u v : Use) (same : u ≡ v) (x : ℕ) (a : x ≡ u .slot) where
@@ -124,22 +121,18 @@ module _ (ii : ℕ) (pos : 1 ≤ ii) (p q : Op) (ok : OpOk p) (s t : ℕ) where
           one j k l m =
               let slot : ℕ = useAt p j .slot in
               let row : ℕ = (s + useAt p j .offset + k) % ii in
-              let g : s + (useAt p j .offset + k) ≡ s + useAt p j .offset + k = omega arith in
-              let h : Hit ii p s slot row (useAt p j .offset + k) j = record { inside = l; slot = refl; begun = omega arith; going = omega arith; row = ap (λ (x : ℕ). x % ii) g } in
-              none-count (sameCell (record { slot = slot; row = row })) (footprint ii q t) (apart-cells (footprint ii p s) (footprint ii q t) e slot row (hit-cell ii p s slot row (useAt p j .offset + k) j ok h))
+              none-count (sameCell (record { slot = slot; row = row })) (footprint ii q t)
+              (apart-cells (footprint ii p s) (footprint ii q t) e slot row (hit-cell ii p s ok slot row j k (record { inside = l; slot = refl; going = m; row = refl })))
 
       toward : anyOf uses-test (upFrom 0 (length (p .uses))) ≡ false → share (footprint ii p s) (footprint ii q t) ≡ false
-      toward e = cells-apart (footprint ii p s) (footprint ii q t) (λ slot row h. one slot row (cell-hit ii p s slot row h))
+      toward e = cells-apart (footprint ii p s) (footprint ii q t) (λ slot row h. one slot row (cell-hit ii p s ok slot row h))
         where
-          one : (slot row : ℕ) → ((k : ℕ) × (j : ℕ) × Hit ii p s slot row k j) → countOf slot row (footprint ii q t) ≡ 0
-          one slot row (k, j, h) =
-              let d : ℕ = k - useAt p j .offset in
-              let g : s + useAt p j .offset + d ≡ s + k = omega (arith, h .begun) in
+          one : (slot row : ℕ) → ((j : ℕ) × (k : ℕ) × Hit ii p s slot row j k) → countOf slot row (footprint ii q t) ≡ 0
+          one slot row (j, k, h) =
               let u : anyOf (cycle-test j) (upFrom 0 (useAt p j .duration)) ≡ false = any-row uses-test 0 (length (p .uses)) j e (omega arith) (omega (arith, h .inside)) in
-              let f : cycle-test j d ≡ false = any-row (cycle-test j) 0 (useAt p j .duration) d u (omega arith) (omega (arith, h .going, h .begun)) in
-              ap (λ (x : ℕ). countOf x row (footprint ii q t)) (sym (h .slot))
-              ∙ ap (λ (x : ℕ). countOf (useAt p j .slot) x (footprint ii q t)) (sym (ap (λ (x : ℕ). x % ii) g ∙ h .row))
-              ∙ count-none (sameCell (record { slot = useAt p j .slot; row = (s + useAt p j .offset + d) % ii })) (footprint ii q t) f
+              rw (← h .slot, ← h .row)
+              (count-none (sameCell (record { slot = useAt p j .slot; row = (s + useAt p j .offset + k) % ii })) (footprint ii q t)
+              (any-row (cycle-test j) 0 (useAt p j .duration) k u (omega arith) (omega (arith, h .going))))
 
 -- of a use of slot x, offset y and duration z, and an operation q started at t
 module _ (ii : ℕ) (q : Op) (s t : ℕ) (u : Use) (x y z : ℕ) (a : x ≡ u .slot) (b : y ≡ u .offset) (d : z ≡ u .duration) where
