@@ -14,8 +14,9 @@ use Rattle.model.specs.Lists.{upFrom, anyOf, countIf, sumOf}
 use Rattle.model.specs.Loop.{Use, Op, noUse, useAt, UseOk, OpOk}
 use Rattle.model.specs.Legality.{Cell, sameCell, covers, cellsIn, footprint}
 use Rattle.model.specs.Table.{countOf}
-use Rattle.model.proofs.Lists.{and-left, and-right, or-false-left, or-false-right, or-both, row-any, count-flatMap, count-none, count-next, count-before, count-last, count-never, sum-add, sum-same, sum-none, sum-around, sum-places}
-use Rattle.model.proofs.Sums.{sum-swap, count-sum}
+use Rattle.model.specs.Counts.{cyclesIn}
+use Rattle.model.proofs.Lists.{and-left, and-right, or-false-left, or-false-right, or-both, row-any, count-flatMap, count-none, count-next, count-before, count-last, count-never, sum-add, sum-same, sum-none, sum-places}
+use Rattle.model.proofs.Sums.{sum-swap, count-sum, sum-only}
 use Rattle.model.proofs.Modular.{wrap-ne}
 
 -- ---- a list of cells
@@ -42,10 +43,6 @@ each-cells q (c ∷ xs) h =
     (each-cells q xs (λ s r l. h s r (omega arith)))
 
 -- ---- rows that come again
-
--- how many of the first n cycles of a use that begins in cycle x fall into row r
-abbrev pub cyclesIn : ℕ → ℕ → ℕ → ℕ → ℕ
-cyclesIn ii x r n = countIf (λ j. eqb r ((x + j) % ii)) (upFrom 0 n)
 
 -- the row of cycle x + n has come before in the n cycles from x on exactly where they are an interval or more
 pub cycles-again : (ii x n : ℕ) → 1 ≤ ii → leb 1 (cyclesIn ii x ((x + n) % ii) n) ≡ leb ii n
@@ -165,10 +162,8 @@ rows-cycles ii x (suc n) pos =
     ∙ omega (
       arith,
       rows-cycles ii x n pos,
-      sum-around here 0 ii ((x + n) % ii) (omega arith) (omega (arith, mod-lt (x + n) pos)),
+      sum-only here ii ((x + n) % ii) (mod-lt (x + n) pos) (λ r l n. rw (ne-eqb r _ n)),
       ap {B = ℕ} (λ (b : Bool). cond b 1 0) (eq-eqb ((x + n) % ii) ((x + n) % ii) refl),
-      sum-none here 0 ((x + n) % ii - 0) (λ r a b. rw (ne-eqb r ((x + n) % ii) (λ e. omega arith))),
-      sum-none here (suc ((x + n) % ii)) (0 + ii - suc ((x + n) % ii)) (λ r a b. rw (ne-eqb r ((x + n) % ii) (λ e. omega arith))),
     )
   where
     here : ℕ → ℕ

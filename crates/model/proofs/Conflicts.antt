@@ -1,10 +1,10 @@
 -- No pair conflicts exactly where no cell occurs twice. Assumes nothing.
-use mathlib.Core.Path.{_≡_, refl, sym, ap, _∙_}
-use mathlib.Core.Bool.{true, false, _&&_}
-use mathlib.Core.List.{List}
+use mathlib.Core.Path.{_≡_, refl, sym, ap, _∙_, fun-ext}
+use mathlib.Core.Bool.{Bool, true, false, not, _&&_, and-false}
+use mathlib.Core.List.{List, []}
 use mathlib.Core.Logic.{_⊎_, inl, inr}
 use mathlib.Core.Option.{Option, none, some}
-use Prim.Native.Nat.{ℕ, zero, suc, _+_, _-_, _%_, _≤_, _<_}
+use Prim.Native.Nat.{ℕ, zero, suc, _+_, _%_, _≤_, _<_}
 use native.Mathlib.Decide.{ℕ-discrete}
 use native.Mathlib.Nat.{eq-or-lt-of-le, le-of-suc-le-suc}
 use native.Mathlib.Omega.{arith}
@@ -13,10 +13,12 @@ use lib.Dec.{eqb, ltb}
 use lib.ListN.{length}
 use Rattle.model.specs.Lists.{upFrom, anyOf, countIf, sumOf}
 use Rattle.model.specs.Loop.{Use, Op, Loop, noUse, size, opAt, useAt, OpOk, LoopOk}
-use Rattle.model.specs.Legality.{Placing, Cell, sameCell, footprint, share, conflict, selfConflict, conflictAt, selfConflictAt, pairConflict, apart}
+use Rattle.model.specs.Legality.{Placing, Cell, sameCell, footprint, share, conflict, selfConflict, conflictAt, selfConflictAt, pairConflict, apart, conflictsWith}
 use Rattle.model.specs.Table.{countOf, opCells, cellsOf}
-use Rattle.model.proofs.Lists.{and-left, and-right, any-at, at-any, count-flatMap, count-none, none-count, count-never, count-before, count-last, sum-same, sum-none, sum-around, one-sum, two-sum, sum-one, sum-some}
-use Rattle.model.proofs.Cells.{cyclesIn, useCount, cycles-once, once-cycles, footprint-count, cells-each, each-cells}
+use Rattle.model.specs.Counts.{cyclesIn}
+use Rattle.model.proofs.Lists.{and-left, and-right, same-test, any-flatMap, any-at, at-any, count-flatMap, count-none, none-count, count-never, count-before, count-last, one-sum, two-sum, sum-one, sum-some}
+use Rattle.model.proofs.Cells.{useCount, cycles-once, once-cycles, footprint-count, cells-each, each-cells}
+use Rattle.model.proofs.Sums.{sum-only}
 use Rattle.model.proofs.Legality.{apart-each, each-apart}
 
 -- ---- cells in common
@@ -30,6 +32,13 @@ apart-cells xs ys e s r h = count-none (sameCell (record { slot = s; row = r }))
 pub cells-apart : (xs ys : List Cell) → ((s r : ℕ) → 1 ≤ countOf s r xs → countOf s r ys ≡ 0) → share xs ys ≡ false
 unfolding share
 cells-apart xs ys h = each-cells (λ c. anyOf (sameCell c) ys) xs (λ s r l. none-count (sameCell (record { slot = s; row = r })) ys (h s r l))
+
+-- having one in common goes both ways
+pub share-sym : (xs ys : List Cell) → share xs ys ≡ share ys xs
+share-sym xs ys = same-test (share xs ys) (share ys xs) (flip xs ys) (flip ys xs)
+  where
+    flip : (xs ys : List Cell) → share xs ys ≡ false → share ys xs ≡ false
+    flip xs ys e = cells-apart ys xs (λ s r h. let no : 1 ≤ countOf s r xs → ⊥ = λ l. omega (arith, apart-cells xs ys e s r l) in omega arith)
 
 -- ---- the cells of one operation
 
@@ -52,15 +61,7 @@ slots-rise p ok j (suc k) l m = pick (eq-or-lt-of-le (le-of-suc-le-suc l)) (λ q
 module _ (ii : ℕ) (p : Op) (t : ℕ) (ok : OpOk p) where
   -- so of a slot only its own use counts
   pub own-count : (j r : ℕ) → j < length (p .uses) → countOf (useAt p j .slot) r (footprint ii p t) ≡ cyclesIn ii (t + useAt p j .offset) r (useAt p j .duration)
-  own-count j r l =
-      footprint-count ii t p ok s r
-      ∙ omega (
-        arith,
-        sum-around f 0 (length (p .uses)) j (omega arith) (omega arith),
-        here,
-        sum-none f 0 (j - 0) (λ i a b. away i (λ e. omega (arith, slots-rise p ok i j (omega arith) l))),
-        sum-none f (suc j) (0 + length (p .uses) - suc j) (λ i a b. away i (λ e. omega (arith, slots-rise p ok j i (omega arith) (omega arith)))),
-      )
+  own-count j r l = footprint-count ii t p ok s r ∙ sum-only f (length (p .uses)) j l (λ i m n. away i (other i m n)) ∙ rw (eq-eqb (useAt p j .slot) (useAt p j .slot) refl)
     where
       s : ℕ
       s = useAt p j .slot
@@ -68,8 +69,11 @@ module _ (ii : ℕ) (p : Op) (t : ℕ) (ok : OpOk p) where
       f : ℕ → ℕ
       f i = useCount ii t s r (useAt p i)
 
-      here : f j ≡ cyclesIn ii (t + useAt p j .offset) r (useAt p j .duration)
-      here = rw (eq-eqb (useAt p j .slot) (useAt p j .slot) refl)
+      other : (i : ℕ) → i < length (p .uses) → (i ≡ j → ⊥) → useAt p j .slot ≡ useAt p i .slot → ⊥
+      other i m n e =
+          let lt : i < j → ⊥ = λ q. omega (arith, slots-rise p ok i j q l) in
+          let gt : j < i → ⊥ = λ q. omega (arith, slots-rise p ok j i q m) in
+          n (omega arith)
 
       away : (i : ℕ) → (useAt p j .slot ≡ useAt p i .slot → ⊥) → f i ≡ 0
       away i n = rw (ne-eqb (useAt p j .slot) (useAt p i .slot) n) (count-never (λ k. false) (upFrom 0 (useAt p i .duration)) (λ k. refl))
@@ -131,20 +135,12 @@ pub once-placed : (ii : ℕ) (p : Op) (x : Option ℕ) → OpOk p → 1 ≤ ii �
 once-placed ii p none ok pos h = refl
 once-placed ii p (some t) ok pos h = once-self ii p t ok pos h
 
-module _ (ii : ℕ) (p q : Op) where
-  -- of two operations that do not conflict, a cell of the first is not one of the second
-  pub conflict-cells : (x y : Option ℕ) → conflictAt ii p x q y ≡ false → (s r : ℕ) → 1 ≤ countOf s r (opCells ii p x) → countOf s r (opCells ii q y) ≡ 0
-  unfolding conflict countIf
-  conflict-cells none y e s r h = absurd (omega arith)
-  conflict-cells (some a) none e s r h = refl
-  conflict-cells (some a) (some b) e s r h = apart-cells (footprint ii p a) (footprint ii q b) e s r h
-
-  -- and the other way round
-  pub cells-conflict : (x y : Option ℕ) → ((s r : ℕ) → 1 ≤ countOf s r (opCells ii p x) → countOf s r (opCells ii q y) ≡ 0) → conflictAt ii p x q y ≡ false
-  unfolding conflict
-  cells-conflict none y h = refl
-  cells-conflict (some a) none h = refl
-  cells-conflict (some a) (some b) h = cells-apart (footprint ii p a) (footprint ii q b) h
+-- two operations that may not be placed conflict exactly where their cells have one in common
+conflict-share : (ii : ℕ) (p q : Op) (x y : Option ℕ) → conflictAt ii p x q y ≡ share (opCells ii p x) (opCells ii q y)
+unfolding share conflict anyOf countIf
+conflict-share ii p q none y = refl
+conflict-share ii p q (some a) none = sym (cells-apart (footprint ii p a) [] (λ s r h. refl))
+conflict-share ii p q (some a) (some b) = refl
 
 -- ---- all operations
 
@@ -163,7 +159,7 @@ module _ (l : Loop) (ii : ℕ) (f : Placing) where
   apart-once ok e s r =
       rw cells-sum
       (sum-one (cellsAt s r) 0 (size l) (λ o m n. placed-once ii (opAt l o) (f o) (ok .op-ok o (omega arith)) (self o (omega arith)) s r)
-      (λ a b m n o h. conflict-cells ii (opAt l a) (opAt l b) (f a) (f b) (other a b n (omega arith)) s r h))
+      (λ a b m n o h. apart-cells (opCells ii (opAt l a) (f a)) (opCells ii (opAt l b) (f b)) (sym (conflict-share ii _ _ (f a) (f b)) ∙ other a b n (omega arith)) s r h))
     where
       self : (o : ℕ) → o < size l → selfConflictAt ii (opAt l o) (f o) ≡ false
       self o m = rw (eq-eqb o o refl) at (apart-each l ii f e o o (omega arith) m)
@@ -181,18 +177,21 @@ module _ (l : Loop) (ii : ℕ) (f : Placing) where
           (once-placed ii (opAt l a) (f a) (ok .op-ok a (omega arith)) pos (λ s r. omega (arith, cells-sum s r, h s r, one-sum (cellsAt s r) (size l) a (omega arith))))
       pick a b m n (inr q) =
           rw (ne-eqb a b (λ e. omega arith))
-          (cells-conflict ii (opAt l a) (opAt l b) (f a) (f b) (λ s r o. omega (arith, cells-sum s r, h s r, two-sum (cellsAt s r) (size l) a b q n)))
+          (conflict-share ii (opAt l a) (opAt l b) (f a) (f b)
+          ∙ cells-apart (opCells ii (opAt l a) (f a)) (opCells ii (opAt l b) (f b)) (λ s r o. omega (arith, cells-sum s r, h s r, two-sum (cellsAt s r) (size l) a b q n)))
 
--- placing one more operation adds its cells, whatever the others are
-pub cells-around : (l : Loop) (ii : ℕ) (f g : Placing) (o t s r : ℕ) → o < size l → f o ≡ none → g o ≡ some t → ((p : ℕ) → (p ≡ o → ⊥) → g p ≡ f p)
-    → countOf s r (cellsOf l ii g) ≡ countOf s r (footprint ii (opAt l o) t) + countOf s r (cellsOf l ii f)
-unfolding countIf
-cells-around l ii f g o t s r inside was is others =
-    let old : cellsAt l ii f s r o ≡ 0 = rw was in
-    let new : cellsAt l ii g s r o ≡ countOf s r (footprint ii (opAt l o) t) = rw is in
-    let a = sum-around (cellsAt l ii f s r) 0 (size l) o (omega arith) (omega arith) in
-    let b = sum-around (cellsAt l ii g s r) 0 (size l) o (omega arith) (omega arith) in
-    omega (arith, cells-sum l ii f s r, cells-sum l ii g s r, same 0 (o - 0) (λ k a b. omega arith), same (suc o) (0 + size l - suc o) (λ k a b. omega arith))
+-- an operation has a cell in common with the placed ones exactly where it conflicts with one of them
+pub share-place : (l : Loop) (ii : ℕ) (f : Placing) (o t : ℕ) → f o ≡ none
+    → share (footprint ii (opAt l o) t) (cellsOf l ii f) ≡ anyOf (conflictsWith l ii f o t) (upFrom 0 (size l))
+unfolding share cellsOf conflict anyOf
+share-place l ii f o t open-yet =
+    share-sym own (cellsOf l ii f) ∙ any-flatMap (λ c. anyOf (sameCell c) own) (λ p. opCells ii (opAt l p) (f p)) (upFrom 0 (size l))
+    ∙ ap (λ (q : ℕ → Bool). anyOf q (upFrom 0 (size l))) (fun-ext (λ p. each p (f p) refl))
   where
-    same : (a n : ℕ) → ((k : ℕ) → a ≤ k → k < a + n → k ≡ o → ⊥) → sumOf (cellsAt l ii g s r) (upFrom a n) ≡ sumOf (cellsAt l ii f s r) (upFrom a n)
-    same a n ne = sum-same (cellsAt l ii g s r) (cellsAt l ii f s r) a n (λ k m q. ap (λ (x : Option ℕ). countOf s r (opCells ii (opAt l k) x)) (others k (ne k m q)))
+    own : List Cell
+    own = footprint ii (opAt l o) t
+
+    each : (p : ℕ) (x : Option ℕ) → f p ≡ x → share (opCells ii (opAt l p) x) own ≡ (not (eqb p o) && conflictAt ii (opAt l o) (some t) (opAt l p) x)
+    each p none e = sym (and-false (not (eqb p o)))
+    each p (some x) e =
+        rw (ne-eqb p o (λ q. let y : some x ≡ none = sym e ∙ ap f q ∙ open-yet in let z : _≡_ {A = ℕ} 0 1 = cc in omega arith)) (share-sym (footprint ii (opAt l p) x) own)

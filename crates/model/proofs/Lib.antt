@@ -14,6 +14,8 @@ pub mod Legality
 pub mod Table
 pub mod Cells
 pub mod Conflicts
+pub mod Counts
+pub mod Taken
 pub mod Bounds
 pub mod Answers
 pub mod Verifier
