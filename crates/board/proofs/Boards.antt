@@ -10,17 +10,18 @@ use native.Mathlib.Omega.{arith}
 use borrow.Author.Tests.{eq-eqb, ne-eqb}
 use lib.ListN.{length, getD, set, drop, length-set, length-drop}
 use lib.Seq.{getD-set-same, getD-set-other, set-out}
-use Rattle.model.specs.Loop.{Loop, size, opAt}
+use Rattle.model.specs.Loop.{Loop, size, opAt, LoopOk}
 use Rattle.model.specs.File.{loopOf, Accepted}
 use Rattle.model.specs.Legality.{Placing, legalAt, placeAt, fitsAt}
 use Rattle.model.specs.Table.{IsTable, cellsOf}
 use Rattle.model.proofs.Lists.{and-both}
 use Rattle.model.proofs.File.{accepted-ok}
-use Rattle.model.proofs.Legality.{Part, legal-part, legal-place, place-same}
+use Rattle.model.proofs.Legality.{fits-conflict, Part, place-same}
+use Rattle.model.proofs.Counts.{legal-part, legal-place}
 use Rattle.reservation.specs.Rows.{overUses, withBit, lessBit, UsesIn}
 use Rattle.reservation.specs.Seats.{seatOf, seats}
 use Rattle.reservation.proofs.RowUpdates.{uses-rest}
-use Rattle.reservation.proofs.Placings.{legal-digits, fits-conflict, reserve-place, reserve-uses, release-place, release-uses}
+use Rattle.reservation.proofs.Placings.{legal-digits, reserve-place, reserve-uses, release-place, release-uses}
 use Rattle.reservation.proofs.Seats.{seat-some, seat-none}
 use Rattle.board.specs.Board.{Sane, Board, IsPut}
 
@@ -80,17 +81,17 @@ lift-open xs o l = seat-none (getD (set xs o 65535) o 65535) (getD-set-same xs o
 -- ---- sane starts
 
 -- an operation put in where it fits
-pub put-sane : {l : Loop} {ii h : ℕ} {xs : List ℕ} (o t : ℕ) → Sane l ii h xs → h ≤ 4096 → size l ≤ 64 → o < size l → seats xs o ≡ none → t < h
+pub put-sane : {l : Loop} {ii h : ℕ} {xs : List ℕ} (o t : ℕ) → LoopOk l → 1 ≤ ii → Sane l ii h xs → h ≤ 4096 → o < size l → seats xs o ≡ none → t < h
     → fitsAt l ii (seats xs) o t ≡ true → Sane l ii h (set xs o t)
-put-sane {l} {ii} {h} {xs} o t s far few inside free near fits = record {
+put-sane {l} {ii} {h} {xs} o t ok pos s far inside free near fits = record {
   whole = length-set xs o t ∙ s .whole;
   blank = λ p m. getD-set-other xs o p t 65535 (λ e. omega arith) ∙ s .blank p m;
   near = λ p x e. go p x e (ℕ-discrete p o);
-  fine = ap (legalAt l ii) is ∙ legal-place l ii (seats xs) o t inside free ∙ and-both (legalAt l ii (seats xs)) (fitsAt l ii (seats xs) o t) (s .fine) fits;
+  fine = ap (legalAt l ii) is ∙ legal-place l ii ok pos (seats xs) o t inside free ∙ and-both (legalAt l ii (seats xs)) (fitsAt l ii (seats xs) o t) (s .fine) fits;
 }
   where
     is : seats (set xs o t) ≡ placeAt (seats xs) o t
-    is = put-seats xs o t (omega (arith, s .whole)) (λ e. omega arith)
+    is = put-seats xs o t (omega (arith, s .whole, ok .few)) (λ e. omega arith)
 
     go : (p x : ℕ) → seats (set xs o t) p ≡ some x → Dec (p ≡ o) → x < h
     go p x e (yes q) =
@@ -112,14 +113,14 @@ part-seats ys xs h = record { same = λ o t e. go o t e (h o) }
     go o t e (inr q) = ap seatOf (sym q) ∙ e
 
 -- fewer operations are as sane
-pub part-sane : {l : Loop} {ii h : ℕ} {xs : List ℕ} (ys : List ℕ) → Sane l ii h xs → length ys ≡ 64 → Fewer ys xs → Sane l ii h ys
-part-sane {l} {ii} {h} {xs} ys s whole fewer =
+pub part-sane : {l : Loop} {ii h : ℕ} {xs : List ℕ} (ys : List ℕ) → LoopOk l → 1 ≤ ii → Sane l ii h xs → length ys ≡ 64 → Fewer ys xs → Sane l ii h ys
+part-sane {l} {ii} {h} {xs} ys ok pos s whole fewer =
     let p : Part (seats ys) (seats xs) = part-seats ys xs fewer in
     record {
       whole = whole;
       blank = λ o m. pick o (s .blank o m) (fewer o);
       near = λ o t e. s .near o t (p .same o t e);
-      fine = legal-part l ii (seats ys) (seats xs) p (s .fine);
+      fine = legal-part l ii ok pos (seats ys) (seats xs) p (s .fine);
     }
   where
     pick : (o : ℕ) → getD xs o 65535 ≡ 65535 → (getD ys o 65535 ≡ 65535) ⊎ (getD ys o 65535 ≡ getD xs o 65535) → getD ys o 65535 ≡ 65535
@@ -136,8 +137,8 @@ lift-fewer xs o p = go (ℕ-discrete p o) (decLt o (length xs))
     go (no d) l = inr (getD-set-other xs o p 65535 65535 d)
 
 -- an operation taken out
-pub lift-sane : {l : Loop} {ii h : ℕ} {xs : List ℕ} (o : ℕ) → Sane l ii h xs → Sane l ii h (set xs o 65535)
-lift-sane {xs} o s = part-sane (set xs o 65535) s (length-set xs o 65535 ∙ s .whole) (lift-fewer xs o)
+pub lift-sane : {l : Loop} {ii h : ℕ} {xs : List ℕ} (o : ℕ) → LoopOk l → 1 ≤ ii → Sane l ii h xs → Sane l ii h (set xs o 65535)
+lift-sane {xs} o ok pos s = part-sane (set xs o 65535) ok pos s (length-set xs o 65535 ∙ s .whole) (lift-fewer xs o)
 
 -- ---- boards
 
@@ -155,16 +156,16 @@ pub put-board : {f : List ℕ} {ii h o t : ℕ} {xs rows xs′ rows′ : List �
 put-board {f} {ii} {h} {o} {t} b inside free near fits p = record {
   accepted = b .accepted;
   numbers = b .numbers;
-  sane = rw (p .starts-are) (put-sane o t (b .sane) (b .numbers .far) (few-operations f (b .accepted)) inside free near fits);
+  sane = rw (p .starts-are) (put-sane o t (accepted-ok f (b .accepted)) (b .numbers .some) (b .sane) (b .numbers .far) inside free near fits);
   held = p .held;
 }
 
 -- an operation taken out
 pub lift-board : {f : List ℕ} {ii h o : ℕ} {xs rows xs′ rows′ : List ℕ} → Board f ii h xs rows → IsPut f ii o 65535 xs rows xs′ rows′ → Board f ii h xs′ rows′
-lift-board {o} b p = record {
+lift-board {f} {o = o} b p = record {
   accepted = b .accepted;
   numbers = b .numbers;
-  sane = rw (p .starts-are) (lift-sane o (b .sane));
+  sane = rw (p .starts-are) (lift-sane o (accepted-ok f (b .accepted)) (b .numbers .some) (b .sane));
   held = p .held;
 }
 

@@ -16,10 +16,10 @@ use Rattle.model.specs.Legality.{Placing, breaks, firstBreach, conflicts, fitsA
 use Rattle.model.specs.Session.{State, Call, place, remove, Reply, isPlaced, checks, effect, step}
 use Rattle.model.proofs.Lists.{and-both, false-not, none-first}
 use Rattle.model.proofs.Checks.{passes-head, passes-tail, passes-left, passes-right, not-found}
+use Rattle.model.proofs.Legality.{fits-tests}
 use Rattle.model.proofs.Session.{step-refused, step-done}
 use Rattle.reservation.specs.Seats.{seats}
 use Rattle.reservation.proofs.Seats.{seat-none, seat-some}
-use Rattle.reservation.proofs.Placings.{fits-tests}
 use Rattle.refusals.specs.Checked.{refusalOf}
 use Rattle.refusals.specs.declared.Checked.{Checked}
 use Rattle.refusals.specs.declared.Checked.the-variants as checked

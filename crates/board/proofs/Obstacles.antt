@@ -20,10 +20,11 @@ use Rattle.model.specs.Loop.{Dep, Loop, noDep, size, opAt, depAt}
 use Rattle.model.specs.File.{loopOf, Accepted}
 use Rattle.model.specs.Legality.{Placing, conflict, conflictAt, selfConflict, brokenAt, placeAt, touches, breaks, firstBreach, conflictsWith, fitsAt}
 use Rattle.model.specs.Session.{Starts, force, displaced, isPlaced, nowhere, checks, inTheWay, without, maskOf}
-use Rattle.model.proofs.Lists.{or-false-left, or-false-right, length-tabulate, getD-tabulate, none-first, any-row, any-places}
+use Rattle.model.proofs.Lists.{false-not, and-both, or-both, row-any, or-false-left, or-false-right, length-tabulate, getD-tabulate, none-first, any-row, any-places}
 use Rattle.model.proofs.Sums.{sum-next}
 use Rattle.model.proofs.Checks.{passes-head, passes-tail, passes-left, passes-right, not-found}
-use Rattle.model.proofs.Legality.{parts-fits, place-same, place-other}
+use Rattle.model.proofs.File.{accepted-ok}
+use Rattle.model.proofs.Legality.{fits-tests, place-same, place-other}
 use Rattle.reservation.specs.Seats.{seatOf, seats}
 use Rattle.reservation.proofs.Bits.{or-shl}
 use Rattle.reservation.proofs.Seats.{seat-none, seat-some}
@@ -293,11 +294,12 @@ module _ {f : List ℕ} {ii h o t : ℕ} {xs rows xs′ rows′ : List ℕ} {mas
   -- so o fits at t, if nothing that concerns o itself is against it
   left-fits : ((e : ℕ) → e < length (loopOf f .deps) → breaks ii nowhere o t (depAt (loopOf f) e) ≡ false) → selfConflict ii (opAt (loopOf f) o) ≡ false
       → fitsAt (loopOf f) ii (seats xs′) o t ≡ true
-  left-fits own self = parts-fits (loopOf f) ii (seats xs′) o t (record {
-    kept = λ e m. left-kept (depAt (loopOf f) e) (λ p z. hit-not (loopOf f) ii (seats xs) o t (length (loopOf f .deps)) p e z m) (own e m);
-    self = self;
-    clear = λ p m. left-apart p;
-  })
+  left-fits own self =
+      fits-tests (loopOf f) ii (seats xs′) o t
+      ∙ and-both _ _
+      (false-not _ (row-any _ 0 (length (loopOf f .deps)) (λ e l m.
+      left-kept (depAt (loopOf f) e) (λ p z. hit-not (loopOf f) ii (seats xs) o t (length (loopOf f .deps)) p e z (omega arith)) (own e (omega arith)))))
+      (false-not _ (or-both _ _ self (row-any _ 0 (size (loopOf f)) (λ p l m. left-apart p))))
 
   -- the starts are a part of those before
   left-fewer : Fewer xs′ xs
@@ -312,7 +314,7 @@ module _ {f : List ℕ} {ii h o t : ℕ} {xs rows xs′ rows′ : List ℕ} {mas
   left-board = record {
     accepted = b .accepted;
     numbers = b .numbers;
-    sane = part-sane xs′ (b .sane) (c .board .sane .whole) left-fewer;
+    sane = part-sane xs′ (accepted-ok f (b .accepted)) (b .numbers .some) (b .sane) (c .board .sane .whole) left-fewer;
     held = c .board .held;
   }
 

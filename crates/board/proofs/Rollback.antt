@@ -15,7 +15,8 @@ use Rattle.model.specs.Loop.{size}
 use Rattle.model.specs.File.{loopOf}
 use Rattle.model.specs.Legality.{legalAt, fitsAt}
 use Rattle.model.proofs.Lists.{and-right}
-use Rattle.model.proofs.Legality.{legal-part, legal-place}
+use Rattle.model.proofs.File.{accepted-ok}
+use Rattle.model.proofs.Counts.{legal-part, legal-place}
 use Rattle.reservation.specs.Seats.{seats}
 use Rattle.reservation.proofs.Seats.{seat-none}
 use Rattle.board.specs.Board.{Sane, Board, IsPut}
@@ -151,10 +152,11 @@ module _ {f : List ℕ} {ii p : ℕ} {wanted rows₀ xs rows : List ℕ} (t : Fi
     -- so it fits
     pub fill-fits : fitsAt (loopOf f) ii (seats xs) p x ≡ true
     fill-fits =
+        let ok = accepted-ok f (t .board .accepted) in
         and-right (legalAt (loopOf f) ii (seats xs)) (fitsAt (loopOf f) ii (seats xs) p x)
-        (sym (legal-place (loopOf f) ii (seats xs) p x inside fill-open)
+        (sym (legal-place (loopOf f) ii ok (t .board .numbers .some) (seats xs) p x inside fill-open)
         ∙ ap (legalAt (loopOf f) ii) (sym (put-seats xs p x (board-inside p (t .board) inside) some))
-        ∙ legal-part (loopOf f) ii (seats (set xs p x)) (seats wanted) (part-seats (set xs p x) wanted fill-fewer) (s .fine))
+        ∙ legal-part (loopOf f) ii ok (t .board .numbers .some) (seats (set xs p x)) (seats wanted) (part-seats (set xs p x) wanted fill-fewer) (s .fine))
 
     -- its start is in range
     pub fill-near : x < 4096

@@ -19,10 +19,11 @@ use Rattle.model.specs.Table.{cellsOf, IsTable, Digits}
 use Rattle.model.proofs.Lists.{false-not, and-both}
 use Rattle.model.proofs.File.{accepted-ok}
 use Rattle.model.proofs.StartLists.{placed-after, placed-snoc}
-use Rattle.model.proofs.Legality.{legal-prefix, legal-place, legal-snoc}
+use Rattle.model.proofs.Legality.{fits-tests, fits-conflict}
+use Rattle.model.proofs.Counts.{legal-prefix, legal-place, legal-snoc}
 use Rattle.reservation.specs.Rows.{overUses, withBit, lessBit, UsesIn}
 use Rattle.reservation.specs.Place.{firstTaken}
-use Rattle.reservation.proofs.Placings.{legal-digits, fits-tests, fits-conflict, reserve-place, release-uses, free-conflict, conflict-free, reserve-uses, reserve-release}
+use Rattle.reservation.proofs.Placings.{legal-digits, reserve-place, release-uses, free-conflict, conflict-free, reserve-uses, reserve-release}
 use Rattle.descent.specs.Span.{inside, allowed, WindowIs}
 use Rattle.descent.specs.Tree.{under, treeAnswer, treeProbes, Res, broke, all, no-more, rest, run, runO}
 use Rattle.descent.specs.Descent.{MayTry, tell, Wrote, Ready, Done, below, branch}
@@ -43,13 +44,13 @@ fits-next : (l : Loop) (ii : ℕ) (xs : List ℕ) (s : ℕ)
 unfolding allowed
 fits-next l ii xs s = fits-tests l ii (placed xs) (length xs) s
 
-module _ (l : Loop) (ii : ℕ) (xs : List ℕ) (s : ℕ) (in-loop : length xs < size l) where
+module _ (l : Loop) (ii : ℕ) (ok : LoopOk l) (pos : 1 ≤ ii) (xs : List ℕ) (s : ℕ) (in-loop : length xs < size l) where
   -- where the next operation does not fit at s, no list that goes on with s is legal
   unfit-below : fitsAt l ii (placed xs) (length xs) s ≡ false → (q : List ℕ) → legal l ii (xs ++ s ∷ q) ≡ false
   unfit-below e q =
       ap (legal l ii) (sym (append-snoc xs s q))
-      ∙ not-then (legal l ii ((xs ++ s ∷ []) ++ q)) (legal l ii (xs ++ s ∷ [])) (legal-prefix l ii (xs ++ s ∷ []) q)
-      (legal-snoc l ii xs s in-loop ∙ ap (λ (b : Bool). legal l ii xs && b) e ∙ and-false (legal l ii xs))
+      ∙ not-then (legal l ii ((xs ++ s ∷ []) ++ q)) (legal l ii (xs ++ s ∷ [])) (legal-prefix l ii ok pos (xs ++ s ∷ []) q)
+      (legal-snoc l ii ok pos xs s in-loop ∙ ap (λ (b : Bool). legal l ii xs && b) e ∙ and-false (legal l ii xs))
 
   -- nor is one where the dependences do not allow s
   barred-below : allowed l ii xs (length (l .deps)) s ≡ false → (q : List ℕ) → legal l ii (xs ++ s ∷ q) ≡ false
@@ -221,7 +222,7 @@ module _ {f starts₀ rows₀ : List ℕ} {op n ii h : ℕ} (ready : Ready f sta
             paid = omega (arith, turn .paid);
             to-come =
                 ap (λ (j : ℕ). runO L h (n - op - 1) j (h - j) (purse - 1)) (add-one s)
-                ∙ sym (run-skip L h (n - op - 1) s (h - suc s) purse here (barred-below (loopOf f) ii (take op starts₀) s in-loop barred) (omega arith))
+                ∙ sym (run-skip L h (n - op - 1) s (h - suc s) purse here (barred-below (loopOf f) ii (accepted-ok f (ready .accepted)) (ready .some) (take op starts₀) s in-loop barred) (omega arith))
                 ∙ first-apart l;
           }
 
@@ -329,7 +330,7 @@ module _ {f starts rows : List ℕ} {op n ii h s first : ℕ} (asked : MayTry f 
   -- it meets a taken cell: nothing begins with it
   pub unfit : {b : ℕ} → (firstTaken ii rows s (p .uses) ≡ none → ⊥) → Done (branch f starts op n ii h s b) n op (take op starts ++ s ∷ []) starts starts (Nothing b)
   unfit {b} taken =
-      let below-s = unfit-below (loopOf f) ii (take op starts) s in-loop (ap (λ (o : ℕ). fitsAt (loopOf f) ii placing o s) len ∙ no-fit (fitsAt (loopOf f) ii placing op s) refl) in
+      let below-s = unfit-below (loopOf f) ii loop-ok (ready .some) (take op starts) s in-loop (ap (λ (o : ℕ). fitsAt (loopOf f) ii placing o s) len ∙ no-fit (fitsAt (loopOf f) ii placing op s) refl) in
       let r : branch f starts op n ii h s b ≡ no-more b = run-unfit (under (under (legal (loopOf f) ii) (take op starts)) (s ∷ [])) h (n - op - 1) b below-s in
       record { says = rw r; list = rw r tt; kept = refl; same-length = refl }
     where
@@ -369,7 +370,7 @@ module _ {f starts rows : List ℕ} {op n ii h s first : ℕ} (asked : MayTry f 
     -- so the placing with it is legal
     legal-with : legalAt (loopOf f) ii (placeAt placing op s) ≡ true
     legal-with =
-        legal-place (loopOf f) ii placing op s op-in open-yet
+        legal-place (loopOf f) ii loop-ok (ready .some) placing op s op-in open-yet
         ∙ and-both (legalAt (loopOf f) ii placing) (fitsAt (loopOf f) ii placing op s) (ready .fine) fits-here
 
     -- the search stands one operation deeper

@@ -1,14 +1,14 @@
 -- The first element of a list that passes, by places. Assumes nothing.
-use mathlib.Core.Path.{_≡_, refl, ap, _∙_}
-use mathlib.Core.Bool.{Bool, true, false, cond}
+use mathlib.Core.Path.{_≡_, refl, sym, ap, _∙_}
+use mathlib.Core.Bool.{Bool, true, false, cond, xor}
 use mathlib.Core.List.{List, [], _∷_, _++_, map, flatMap}
 use mathlib.Core.Option.{none, some}
 use Prim.Native.Nat.{ℕ, zero, suc, _+_, _-_, _<_}
 use native.Mathlib.Nat.{le-of-suc-le-suc, not-suc-le-zero}
 use native.Mathlib.Omega.{arith}
 use lib.ListN.{length, getD}
-use Rattle.model.specs.Lists.{upFrom, first}
-use Rattle.model.proofs.Lists.{any-map, any-flatMap, at-any, row-any, row-around, first-none, none-first, first-later, flatMap-append}
+use Rattle.model.specs.Lists.{upFrom, anyOf, first}
+use Rattle.model.proofs.Lists.{or-false-left, or-false-right, any-map, any-flatMap, any-at, at-any, any-row, row-any, row-around, first-none, none-first, first-later, flatMap-append}
 
 module _ {A : Type 0} where
   -- what stands within a list, whatever stands past its end
@@ -51,6 +51,18 @@ module _ {A : Type 0} where
       pick true q ih = let g : x ≡ y = cc in rw g
       pick false q ih = ih q
 
+-- two tests that differ nowhere find the same
+first-same : {A : Type 0} (p q : A → Bool) (xs : List A) → anyOf (λ x. xor (p x) (q x)) xs ≡ false → first p xs ≡ first q xs
+unfolding anyOf first xor
+first-same p q [] e = refl
+first-same p q (x ∷ xs) e = rw (agree (p x) (q x) (or-false-left (xor (p x) (q x)) _ e), first-same p q xs (or-false-right (xor (p x) (q x)) _ e))
+  where
+    agree : (a b : Bool) → xor a b ≡ false → a ≡ b
+    agree true true h = refl
+    agree true false h = h
+    agree false true h = sym h
+    agree false false h = refl
+
 -- none of the numbers below n passes
 pub row-not : (p : ℕ → Bool) (n : ℕ) → ((k : ℕ) → k < n → p k ≡ false) → first p (upFrom 0 n) ≡ none
 row-not p n h = first-none p (upFrom 0 n) (row-any p 0 n (λ k l m. h k (omega arith)))
@@ -90,3 +102,26 @@ module _ {A : Type 0} (q : ℕ → A → Bool) (xs : List A) where
       ∙ ap (first passes) (flatMap-append paired (upFrom 0 (k - 0)) (k ∷ rest))
       ∙ first-later passes (flatMap paired (upFrom 0 (k - 0))) (flatMap paired (k ∷ rest)) (none-first passes (flatMap paired (upFrom 0 (k - 0))) (grid-not (k - 0) (λ j m. h j (omega arith))))
       ∙ first-early passes (paired k) (flatMap paired rest) (k, x) (first-map passes (λ y. (k, y)) xs x e)
+
+-- nothing is found exactly where no number passes with an element
+module _ {A : Type 0} (q : ℕ → A → Bool) (xs : List A) (d : A) (n : ℕ) where
+  pub grid-none : ((k j : ℕ) → k < n → j < length xs → q k (getD xs j d) ≡ false) → first (passes q xs) (flatMap (paired q xs) (upFrom 0 n)) ≡ none
+  grid-none h = grid-not q xs n (λ k l. first-not (q k) xs d (λ j m. h k j l m))
+
+  pub none-grid : first (passes q xs) (flatMap (paired q xs) (upFrom 0 n)) ≡ none → (k j : ℕ) → k < n → j < length xs → q k (getD xs j d) ≡ false
+  none-grid e k j l m =
+      let all : anyOf (λ c. anyOf (passes q xs) (paired q xs c)) (upFrom 0 n) ≡ false = sym (any-flatMap (passes q xs) (paired q xs) (upFrom 0 n)) ∙ none-first (passes q xs) _ e in
+      any-at (q k) xs j d (sym (any-map (passes q xs) (λ x. (k, x)) xs) ∙ any-row _ 0 n k all (omega arith) (omega arith)) m
+
+  -- and two tests that agree on all of them find the same
+  pub grid-same : (r : ℕ → A → Bool) → ((k j : ℕ) → k < n → j < length xs → q k (getD xs j d) ≡ r k (getD xs j d))
+      → first (passes q xs) (flatMap (paired q xs) (upFrom 0 n)) ≡ first (passes r xs) (flatMap (paired r xs) (upFrom 0 n))
+  unfolding xor
+  grid-same r h =
+      first-same (passes q xs) (passes r xs) (flatMap (paired q xs) (upFrom 0 n))
+      (any-flatMap _ (paired q xs) (upFrom 0 n)
+      ∙ row-any _ 0 n (λ k l m. any-map _ (λ x. (k, x)) xs ∙ at-any _ xs d (λ j o. rw (h k j (omega arith) o) (same (r k (getD xs j d))))))
+    where
+      same : (b : Bool) → xor b b ≡ false
+      same true = refl
+      same false = refl

@@ -12,7 +12,10 @@ pub mod Delays
 pub mod StartLists
 pub mod Legality
 pub mod Table
+pub mod Cells
 pub mod Conflicts
+pub mod Counts
+pub mod Taken
 pub mod Bounds
 pub mod Answers
 pub mod Verifier

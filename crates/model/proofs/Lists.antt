@@ -1,12 +1,15 @@
 -- Laws of the model's list functions. Assumes nothing.
 use mathlib.Core.Path.{_≡_, refl, sym, ap, ap₂, _∙_}
-use mathlib.Core.Bool.{Bool, true, false, not, cond, _&&_, _||_, or-assoc}
+use mathlib.Core.Bool.{Bool, true, false, not, cond, _&&_, _||_, or-assoc, or-true}
 use mathlib.Core.List.{List, [], _∷_, _++_, map, flatMap, append-nil, append-assoc}
 use mathlib.Core.Option.{none, some}
 use Prim.Native.Nat.{ℕ, zero, suc, _+_, _-_, _≤_, _<_}
 use native.Mathlib.Nat.{add-zero, zero-add, suc-add, le-of-suc-le-suc, not-suc-le-zero}
+use native.Mathlib.Numerals.{add-one}
 use native.Mathlib.Decide.{ℕ-discrete}
 use native.Mathlib.Omega.{arith}
+use borrow.Author.Tests.{leb-false, le-leb}
+use lib.Dec.{leb}
 use lib.ListN.{length, getD, take, drop, replicate, take-append-drop}
 use Rattle.model.specs.Lists.{upFrom, pairs, anyOf, first, countIf, sumOf}
 
@@ -132,6 +135,17 @@ module _ {A : Type 0} where
   unfolding anyOf
   any-append p [] ys = refl
   any-append p (x ∷ xs) ys = ap (λ (b : Bool). p x || b) (any-append p xs ys) ∙ sym (or-assoc (p x) (anyOf p xs) (anyOf p ys))
+
+  -- one of two tests
+  pub any-or : (p q : A → Bool) (xs : List A) → anyOf (λ x. p x || q x) xs ≡ (anyOf p xs || anyOf q xs)
+  unfolding anyOf
+  any-or p q [] = refl
+  any-or p q (x ∷ xs) = rw (any-or p q xs) (swap (p x) (q x) (anyOf p xs) (anyOf q xs))
+    where
+      swap : (a b c d : Bool) → (a || b || (c || d)) ≡ (a || c || (b || d))
+      swap true b c d = refl
+      swap false true c d = sym (or-true c)
+      swap false false c d = refl
 
   -- no element passes, said of each place
   pub any-at : (p : A → Bool) (xs : List A) (i : ℕ) (d : A) → anyOf p xs ≡ false → i < length xs → p (getD xs i d) ≡ false
@@ -303,20 +317,21 @@ module _ {A : Type 0} where
   sum-add f g [] = refl
   sum-add f g (x ∷ xs) = rw (sum-add f g xs) (omega arith)
 
-  -- nothing passes exactly where the count is 0
-  pub count-none : (p : A → Bool) (xs : List A) → anyOf p xs ≡ false → countIf p xs ≡ 0
+  -- some element passes exactly where the count is not 0
+  pub any-count : (p : A → Bool) (xs : List A) → anyOf p xs ≡ leb 1 (countIf p xs)
   unfolding anyOf countIf
-  count-none p [] e = refl
-  count-none p (x ∷ xs) e = rw (or-false-left (p x) (anyOf p xs) e, count-none p xs (or-false-right (p x) (anyOf p xs) e))
+  any-count p [] = refl
+  any-count p (x ∷ xs) = pick (p x) (any-count p xs)
+    where
+      pick : (b : Bool) → anyOf p xs ≡ leb 1 (countIf p xs) → (b || anyOf p xs) ≡ leb 1 (cond b 1 0 + countIf p xs)
+      pick true ih = sym (le-leb 1 (1 + countIf p xs) (omega arith))
+      pick false ih = ih ∙ ap (leb 1) (sym (zero-add (countIf p xs)))
+
+  pub count-none : (p : A → Bool) (xs : List A) → anyOf p xs ≡ false → countIf p xs ≡ 0
+  count-none p xs e = omega (arith, leb-false 1 (countIf p xs) (sym (any-count p xs) ∙ e))
 
   pub none-count : (p : A → Bool) (xs : List A) → countIf p xs ≡ 0 → anyOf p xs ≡ false
-  unfolding anyOf countIf
-  none-count p [] e = refl
-  none-count p (x ∷ xs) e = pick (p x) e (none-count p xs)
-    where
-      pick : (b : Bool) → cond b 1 0 + countIf p xs ≡ 0 → (countIf p xs ≡ 0 → anyOf p xs ≡ false) → (b || anyOf p xs) ≡ false
-      pick true q ih = absurd (omega arith)
-      pick false q ih = ih (omega arith)
+  none-count p xs e = any-count p xs ∙ ap (leb 1) e
 
 -- the count of a list put through f
 pub count-map : {A B : Type 0} (p : B → Bool) (f : A → B) (xs : List A) → countIf p (map f xs) ≡ countIf (λ x. p (f x)) xs
@@ -343,6 +358,24 @@ count-yes p n e = count-next p n ∙ rw e
 
 pub count-no : (p : ℕ → Bool) (n : ℕ) → p n ≡ false → countIf p (upFrom 0 (n + 1)) ≡ countIf p (upFrom 0 n)
 count-no p n e = count-next p n ∙ rw e (omega arith)
+
+-- before a number that passes there are fewer
+pub count-before : (p : ℕ → Bool) (k n : ℕ) → k < n → p k ≡ true → countIf p (upFrom 0 k) + 1 ≤ countIf p (upFrom 0 n)
+unfolding countIf
+count-before p k n l e =
+    let z : k - 0 ≡ k = omega arith in
+    omega (arith, rw (z, e) at (ap (countIf p) (row-around 0 n k (omega arith) (omega arith)) ∙ count-append p (upFrom 0 (k - 0)) (k ∷ upFrom (suc k) (0 + n - suc k))))
+
+-- and before the last that does, one fewer
+pub count-last : (p : ℕ → Bool) (n : ℕ) → 1 ≤ countIf p (upFrom 0 n) → (k : ℕ) × (k < n) × (p k ≡ true) × (countIf p (upFrom 0 n) ≡ countIf p (upFrom 0 k) + 1)
+unfolding countIf upFrom
+count-last p zero h = absurd (omega arith)
+count-last p (suc n) h = pick (p n) refl (count-last p n)
+  where
+    pick : (b : Bool) → p n ≡ b → (1 ≤ countIf p (upFrom 0 n) → (k : ℕ) × (k < n) × (p k ≡ true) × (countIf p (upFrom 0 n) ≡ countIf p (upFrom 0 k) + 1))
+        → (k : ℕ) × (k < suc n) × (p k ≡ true) × (countIf p (upFrom 0 (suc n)) ≡ countIf p (upFrom 0 k) + 1)
+    pick true q ih = (n, omega arith, q, rw (add-one n) at (count-yes p n q))
+    pick false q ih = let e = rw (add-one n) at (count-no p n q) in let w = ih (omega arith) in (w .0, omega (arith, w .1), w .2, e ∙ w .3)
 
 -- two sums over a row that agree term by term
 pub sum-same : (f g : ℕ → ℕ) (a n : ℕ) → ((k : ℕ) → a ≤ k → k < a + n → f k ≡ g k) → sumOf f (upFrom a n) ≡ sumOf g (upFrom a n)

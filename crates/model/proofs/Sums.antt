@@ -1,10 +1,11 @@
 -- Laws of sums and of largest numbers. Assumes nothing.
 use mathlib.Core.Path.{_≡_, refl, sym, ap, ap₂, _∙_}
+use mathlib.Core.Bool.{Bool, cond}
 use mathlib.Core.List.{List, [], _∷_, _++_, flatMap}
-use Prim.Native.Nat.{ℕ, zero, suc, _+_, _*_, _≤_, _<_, max}
+use Prim.Native.Nat.{ℕ, zero, suc, _+_, _-_, _*_, _≤_, _<_, max}
 use native.Mathlib.Omega.{arith}
-use Rattle.model.specs.Lists.{upFrom, sumOf, maxOf}
-use Rattle.model.proofs.Lists.{upFrom-split, sum-append, sum-add}
+use Rattle.model.specs.Lists.{upFrom, countIf, sumOf, maxOf}
+use Rattle.model.proofs.Lists.{upFrom-split, sum-append, sum-add, sum-none, sum-around}
 
 module _ {A B : Type 0} where
   -- a sum over a flatMap is the sum of the sums
@@ -23,12 +24,34 @@ module _ {A B : Type 0} where
       zeros (y ∷ ys) = omega (arith, zeros ys)
   sum-swap f (x ∷ xs) ys = ap (λ (n : ℕ). sumOf (f x) ys + n) (sum-swap f xs ys) ∙ sym (sum-add (f x) (λ y. sumOf (λ z. f z y) xs) ys)
 
+-- a count is a sum of ones
+pub count-sum : {A : Type 0} (p : A → Bool) (xs : List A) → countIf p xs ≡ sumOf (λ x. cond (p x) 1 0) xs
+unfolding countIf sumOf
+count-sum p [] = refl
+count-sum p (x ∷ xs) = ap (λ (n : ℕ). cond (p x) 1 0 + n) (count-sum p xs)
+
 -- a row with one number more
 pub sum-next : (f : ℕ → ℕ) (n : ℕ) → sumOf f (upFrom 0 (n + 1)) ≡ sumOf f (upFrom 0 n) + f n
 unfolding sumOf upFrom
 sum-next f n =
     let e : 0 + n ≡ n = omega arith in
     ap (sumOf f) (upFrom-split 0 n 1) ∙ sum-append f (upFrom 0 n) ((0 + n) ∷ []) ∙ rw e (omega arith)
+
+-- a row of which one number alone counts
+pub sum-only : (f : ℕ → ℕ) (n k : ℕ) → k < n → ((i : ℕ) → i < n → (i ≡ k → ⊥) → f i ≡ 0) → sumOf f (upFrom 0 n) ≡ f k
+sum-only f n k l h =
+    omega (
+      arith,
+      sum-around f 0 n k (omega arith) (omega arith),
+      sum-none f 0 (k - 0) (λ i a b. h i (omega arith) (λ e. omega arith)),
+      sum-none f (suc k) (0 + n - suc k) (λ i a b. h i (omega arith) (λ e. omega arith)),
+    )
+
+-- a row that is not above another, number by number
+pub sum-less : (f g : ℕ → ℕ) (a n : ℕ) → ((k : ℕ) → a ≤ k → k < a + n → f k ≤ g k) → sumOf f (upFrom a n) ≤ sumOf g (upFrom a n)
+unfolding sumOf upFrom
+sum-less f g a zero h = omega arith
+sum-less f g a (suc n) h = omega (arith, h a (omega arith) (omega arith), sum-less f g (suc a) n (λ k l m. h k (omega arith) (omega arith)))
 
 -- n terms of at most b
 pub sum-most : (f : ℕ → ℕ) (b a n : ℕ) → ((k : ℕ) → a ≤ k → k < a + n → f k ≤ b) → sumOf f (upFrom a n) ≤ b * n

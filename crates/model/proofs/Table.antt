@@ -1,6 +1,6 @@
 -- Laws of the reservation table, over the base. Assumes nothing.
 use mathlib.Core.Path.{_≡_, refl, sym, ap, _∙_, fun-ext}
-use mathlib.Core.Bool.{Bool, true, false, cond, and-false}
+use mathlib.Core.Bool.{Bool, cond, and-false}
 use mathlib.Core.Logic.{_⊎_, inl, inr}
 use mathlib.Core.List.{List, [], _∷_, _++_, map, flatMap}
 use mathlib.Core.Option.{none}
@@ -8,7 +8,8 @@ use Prim.Native.Nat.{ℕ, zero, suc, _+_, _-_, _*_, _/_, _%_, _^_, _≤_, _<_}
 use native.Mathlib.Nat.{add-mul, zero-mul, one-mul, zero-add, add-zero, add-comm, mul-assoc, le-refl, le-of-suc-le-suc, not-suc-le-zero, eq-or-lt-of-le, mod-eq-of-lt, one-le-pow, add-mul-div-right, add-mul-mod-self-right, pow-zero, pow-succ', pow-le-pow-right, div-eq-of-lt, sub-add-cancel}
 use native.Mathlib.Decide.{ℕ-discrete}
 use native.Mathlib.Omega.{arith}
-use borrow.Author.Tests.{eq-eqb, ne-eqb}
+use borrow.Author.Tests.{le-leb, eq-eqb, ne-eqb}
+use lib.Dec.{leb}
 use lib.Arith.{digits-lt}
 use lib.ListN.{length, getD, set, take, replicate, length-set, length-replicate, getD-replicate}
 use lib.Pow.{pow-add}
@@ -17,7 +18,7 @@ use Rattle.model.specs.Lists.{upFrom, anyOf, countIf}
 use Rattle.model.specs.Loop.{Loop, size, opAt}
 use Rattle.model.specs.Legality.{Placing, Cell, sameCell}
 use Rattle.model.specs.Table.{countOf, number, rowNumber, tableOf, opCells, cellsOf, coveredAt, IsTable, digitOf, Digits}
-use Rattle.model.proofs.Lists.{any-flatMap, count-append, count-none, none-count, length-tabulate, getD-tabulate}
+use Rattle.model.proofs.Lists.{any-flatMap, any-count, count-append, length-tabulate, getD-tabulate}
 
 -- ---- the count of a cell
 
@@ -235,16 +236,11 @@ digit-count base ii s r cells rows t d l lo hi = rw (t .at r l) (row-digit base 
 
 -- a count of at most 1 says whether there is one
 count-any : {A : Type 0} (p : A → Bool) (xs : List A) → countIf p xs ≤ 1 → countIf p xs ≡ cond (anyOf p xs) 1 0
-count-any p xs l = pick (anyOf p xs) refl
+count-any p xs l = rw (any-count p xs) (go (countIf p xs) l)
   where
-    pick : (b : Bool) → anyOf p xs ≡ b → countIf p xs ≡ cond b 1 0
-    pick false e = count-none p xs e
-    pick true e = some-one (ℕ-discrete (countIf p xs) 0)
-      where
-        some-one : Dec (countIf p xs ≡ 0) → countIf p xs ≡ 1
-        some-one (yes z) =
-            let f : anyOf p xs ≡ false = none-count p xs z in let w : _≡_ {A = ℕ} 0 1 = cc in absurd (omega arith)
-        some-one (no z) = omega arith
+    go : (n : ℕ) → n ≤ 1 → n ≡ cond (leb 1 n) 1 0
+    go zero h = refl
+    go (suc n) h = rw (le-leb 1 (suc n) (omega arith)) (omega arith)
 
 -- in base 2 a bit is 1 exactly where a placed operation covers that slot and row
 pub bit-covered : (l : Loop) (ii : ℕ) (f : Placing) (rows : List ℕ) → IsTable 2 ii (cellsOf l ii f) rows → Digits 2 (cellsOf l ii f)

@@ -1,25 +1,25 @@
 -- Laws of lists of calls: what checkpoints keep, and the placed operations placed again in any order. Assumes nothing.
 use mathlib.Core.Path.{_≡_, refl, sym, ap, _∙_, subst, fun-ext}
-use mathlib.Core.Bool.{Bool, true, false, cond}
-use mathlib.Core.List.{List, [], _∷_, _++_, flatMap}
+use mathlib.Core.Bool.{Bool, true, false, not, cond}
+use mathlib.Core.List.{List, [], _∷_, _++_}
 use mathlib.Core.Option.{Option, none, some}
 use Prim.Native.Nat.{ℕ, _+_, _-_, _≤_, _<_}
 use native.Mathlib.Decide.{ℕ-discrete, decLt}
 use native.Mathlib.Omega.{arith}
-use borrow.Author.Tests.{lt-leb, eq-eqb, ne-eqb, eqb-true, eqb-false}
+use borrow.Author.Tests.{lt-leb, not-true, eq-eqb, ne-eqb, eqb-true, eqb-false}
 use lib.Dec.{eqb}
 use lib.ListN.{length, getD, set, take, replicate, length-append, length-take, length-set, length-replicate, List·getD-append, List·getD-eq-default}
 use lib.Seq.{getD-set-same, getD-set-other, getD-take, take-take, take-append-le, ext-getD}
-use Rattle.model.specs.Lists.{upFrom, anyOf}
 use Rattle.model.specs.Refusals.{Refusal, firstRefusal, Answer, answered, settled}
-use Rattle.model.specs.Loop.{size, opAt, depAt}
-use Rattle.model.specs.Legality.{Placing, selfConflict, legalAt, placeAt, breaks, firstBreach, conflictsWith, conflicts, fitsAt}
-use Rattle.model.specs.Table.{opCells, cellsOf, tableOf}
+use Rattle.model.specs.Loop.{size, LoopOk}
+use Rattle.model.specs.Legality.{Placing, legalAt, placeAt, firstBreach, conflicts, fitsAt}
+use Rattle.model.specs.Table.{tableOf}
 use Rattle.model.specs.Session.{Setup, Starts, State, start, placedIn, stateTable, Call, place, force, remove, checkpoint, release, rollback, Reply, done, numbered, isPlaced, nowhere, checks, effect, stepAs, step, after, replies}
 use Rattle.model.specs.Undo.{gives, NoneGives, markedBy, startOr, placings, times, OrderOf, AllDone}
-use Rattle.model.proofs.Lists.{getD-filled, and-right, or-both, row-any, first-none}
-use Rattle.model.proofs.Legality.{Fits, fits-parts, Part, legal-part, legal-place}
-use Rattle.model.proofs.Table.{table-nil-all}
+use Rattle.model.proofs.Lists.{getD-filled, and-left, and-right, first-none}
+use Rattle.model.proofs.Legality.{fits-tests, fits-conflict, Part}
+use Rattle.model.proofs.Counts.{legal-part, legal-place}
+use Rattle.model.proofs.Table.{table-nil-all, cells-nothing}
 use Rattle.model.proofs.Session.{step-done, rollback-done, state-same, marked, wentBack, back-newest}
 
 -- ---- back to a checkpoint
@@ -130,14 +130,7 @@ start-nowhere n = fun-ext (λ o. getD-filled n o none)
 
 -- so its table is zeros
 pub start-table : (u : Setup) → stateTable u (start u) ≡ replicate (u .ii) 0
-unfolding cellsOf flatMap
-start-table u =
-    ap (λ (f : Placing). tableOf 2 (u .ii) (cellsOf (u .loop) (u .ii) f)) (start-nowhere (size (u .loop)))
-    ∙ ap (tableOf 2 (u .ii)) (go (upFrom 0 (size (u .loop)))) ∙ table-nil-all 2 (u .ii)
-  where
-    go : (os : List ℕ) → flatMap (λ o. opCells (u .ii) (opAt (u .loop) o) none) os ≡ []
-    go [] = refl
-    go (o ∷ os) = go os
+start-table u = ap (tableOf 2 (u .ii)) (cells-nothing (u .loop) (u .ii) _ (λ o. getD-filled (size (u .loop)) o none)) ∙ table-nil-all 2 (u .ii)
 
 -- ---- an operation that is placed
 
@@ -155,23 +148,10 @@ pub place-done : (u : Setup) (st : State) (o t : ℕ) → o < size (u .loop) →
     → step u (place o t) st ≡ (record { starts = set (st .starts) o (some t); checkpoints = st .checkpoints }, answered done)
 unfolding firstRefusal firstBreach
 place-done u st o t inside free near fits =
-    step-done u (place o t) st (rw (lt-leb (size (u .loop)) o inside, free, lt-leb (u .horizon) t near, unbroken, clear))
+    step-done u (place o t) st (rw (lt-leb (size (u .loop)) o inside, free, lt-leb (u .horizon) t near, unbroken, fits-conflict (u .loop) (u .ii) (placedIn (st .starts)) o t fits))
   where
-    f : Placing
-    f = placedIn (st .starts)
-
-    parts : Fits (u .loop) (u .ii) (placedIn (st .starts)) o t
-    parts = fits-parts (u .loop) (u .ii) f o t fits
-
     unbroken : firstBreach (u .loop) (u .ii) (placedIn (st .starts)) o t ≡ none
-    unbroken =
-        first-none (λ e. breaks (u .ii) f o t (depAt (u .loop) e)) (upFrom 0 (length (u .loop .deps)))
-        (row-any (λ e. breaks (u .ii) f o t (depAt (u .loop) e)) 0 (length (u .loop .deps)) (λ e l m. parts .kept e (omega arith)))
-
-    clear : conflicts (u .loop) (u .ii) (placedIn (st .starts)) o t ≡ false
-    clear =
-        or-both (selfConflict (u .ii) (opAt (u .loop) o)) (anyOf (conflictsWith (u .loop) (u .ii) f o t) (upFrom 0 (size (u .loop)))) (parts .self)
-        (row-any (conflictsWith (u .loop) (u .ii) f o t) 0 (size (u .loop)) (λ p l m. parts .clear p (omega arith)))
+    unbroken = first-none _ _ (not-true _ (and-left _ (not (conflicts (u .loop) (u .ii) (placedIn (st .starts)) o t)) (sym (fits-tests (u .loop) (u .ii) (placedIn (st .starts)) o t) ∙ fits)))
 
 -- ---- the placed operations, placed again
 
@@ -206,7 +186,7 @@ placed-inside xs o t e = pick (decLt o (length xs))
         let q : getD xs o none ≡ none = List·getD-eq-default xs none (omega arith) in
         let z : _≡_ {A = ℕ} 0 1 = cc in absurd (omega arith)
 
-module _ (u : Setup) (xs : Starts) (good : Good u xs) where
+module _ (u : Setup) (ok : LoopOk (u .loop)) (pos : 1 ≤ u .ii) (xs : Starts) (good : Good u xs) where
   module _ (o : ℕ) (os : List ℕ) (ys : Starts) (h : Left xs (o ∷ os) ys) where
     -- the first that is left has a start, and does not stand among the others
     head-is : (getD xs o none ≡ some (startOr (getD xs o none))) × (times o os ≡ 0)
@@ -259,9 +239,9 @@ module _ (u : Setup) (xs : Starts) (good : Good u xs) where
       let inside : o < size (u .loop) = omega (arith, good .whole, h .whole, head-inside o os ys h) in
       let legal : legalAt (u .loop) (u .ii) (placeAt (placedIn ys) o t) ≡ true =
       ap (legalAt (u .loop) (u .ii)) (sym (placed-set ys o t (head-inside o os ys h)))
-      ∙ legal-part (u .loop) (u .ii) _ (placedIn xs) (left-part os _ (left-next o os ys h)) (good .fine) in
+      ∙ legal-part (u .loop) (u .ii) ok pos _ (placedIn xs) (left-part os _ (left-next o os ys h)) (good .fine) in
       place-done u st o t inside (head-free o os ys h) (good .near o t (head-is o os ys h .0))
-      (and-right (legalAt (u .loop) (u .ii) (placedIn ys)) _ (sym (legal-place (u .loop) (u .ii) (placedIn ys) o t inside (head-free o os ys h)) ∙ legal))
+      (and-right (legalAt (u .loop) (u .ii) (placedIn ys)) _ (sym (legal-place (u .loop) (u .ii) ok pos (placedIn ys) o t inside (head-free o os ys h)) ∙ legal))
 
   -- and so are all
   replay-from : (os : List ℕ) (st : State) → Left xs os (st .starts)

@@ -1,9 +1,9 @@
 -- What reserving and releasing ask of the rows, from what the table's cells are. Assumes nothing.
-use mathlib.Core.Path.{_≡_, refl, sym, ap, _∙_}
+use mathlib.Core.Path.{_≡_, refl, _∙_}
 use mathlib.Core.Bool.{false}
 use mathlib.Core.List.{List, _++_}
 use Prim.Native.Nat.{ℕ, _+_, _%_, _≤_, _<_}
-use native.Mathlib.Nat.{add-assoc, mod-lt}
+use native.Mathlib.Nat.{mod-lt}
 use native.Mathlib.Omega.{arith}
 use borrow.Author.Tests.{ltb-false}
 use lib.Dec.{ltb}
@@ -29,8 +29,7 @@ module _ (ii s : ℕ) (p : Op) (ok : OpOk p) (pos : 1 ≤ ii) (near : s ≤ 4096
     bits = λ j k l m.
         let u = useAt p j in
         let r : ℕ = (s + u .offset + k) % ii in
-        let h = hit-cell ii p s (u .slot) r (u .offset + k) j ok
-        (record { inside = l; slot = refl; begun = omega arith; going = omega arith; row = ap (λ (n : ℕ). n % ii) (sym (add-assoc s (u .offset) k)) }) in
+        let h = hit-cell ii p s ok (u .slot) r j k (record { inside = l; slot = refl; going = m; row = refl }) in
         bit (u .slot) r (ok .each j l .slot-low) (ok .each j l .slot-high) (mod-lt (s + u .offset + k) pos) h;
   }
 

@@ -1,39 +1,22 @@
 -- Conflicts of two operations, by uses and cycles. Assumes nothing.
 use mathlib.Core.Path.{_≡_, refl, sym, ap, _∙_}
 use mathlib.Core.Bool.{Bool, true, false, _&&_}
-use mathlib.Core.List.{List}
-use Prim.Native.Nat.{ℕ, _+_, _-_, _%_, _≤_, _<_}
-use native.Mathlib.Decide.{ℕ-discrete}
+use Prim.Native.Nat.{ℕ, _+_, _%_, _≤_, _<_}
 use native.Mathlib.Omega.{arith}
 use lib.Dec.{eqb, ltb}
 use lib.ListN.{length, getD}
-use borrow.Author.Tests.{eq-eqb, ne-eqb, eqb-true, lt-ltb, ltb-true, le-ltb}
+use borrow.Author.Tests.{leb-true, le-leb, eq-eqb, ne-eqb, eqb-true, lt-ltb, ltb-true, le-ltb}
 use Rattle.model.specs.Lists.{upFrom, anyOf}
 use Rattle.model.specs.Loop.{Use, Op, Loop, noUse, size, opAt, useAt, allUses, firstUseOf, OpOk}
-use Rattle.model.specs.Legality.{Cell, sameCell, footprint, share, conflict}
-use Rattle.model.specs.Table.{countOf}
-use Rattle.model.proofs.Lists.{and-left, and-right, same-true, same-test, at-any, any-some, some-any, any-row, row-any, row-some, count-none, none-count}
+use Rattle.model.specs.Legality.{sameCell, footprint, share, conflict}
+use Rattle.model.proofs.Lists.{and-left, and-right, same-true, same-test, at-any, any-some, some-any, any-count, any-row, row-any, row-some}
 use Rattle.model.proofs.Modular.{cycleOf, cycle-row, cycle-first}
 use Rattle.model.proofs.Loop.{use-among}
-use Rattle.model.proofs.Conflicts.{Hit, cell-hit, hit-cell, apart-cells, cells-apart}
+use Rattle.model.proofs.Cells.{cells-each, each-cells}
+use Rattle.model.proofs.Conflicts.{Hit, cell-hit, hit-cell}
 use Rattle.reservation.specs.Overlaps.{coversCell, useMeets}
 
 -- ---- the cells of one operation
-
--- a cell is one of these exactly where it counts
-cell-any : (s r : ℕ) (cells : List Cell) → 1 ≤ countOf s r cells → anyOf (sameCell (record { slot = s; row = r })) cells ≡ true
-cell-any s r cells h = pick (anyOf (sameCell (record { slot = s; row = r })) cells) refl
-  where
-    pick : (b : Bool) → anyOf (sameCell (record { slot = s; row = r })) cells ≡ b → b ≡ true
-    pick true e = refl
-    pick false e = absurd (omega (arith, count-none (sameCell (record { slot = s; row = r })) cells e))
-
-any-cell : (s r : ℕ) (cells : List Cell) → anyOf (sameCell (record { slot = s; row = r })) cells ≡ true → 1 ≤ countOf s r cells
-any-cell s r cells e = pick (ℕ-discrete (countOf s r cells) 0)
-  where
-    pick : Dec (countOf s r cells ≡ 0) → 1 ≤ countOf s r cells
-    pick (no n) = omega arith
-    pick (yes z) = let f : anyOf (sameCell (record { slot = s; row = r })) cells ≡ false = none-count (sameCell (record { slot = s; row = r })) cells z in let q : _≡_ {A = ℕ} 0 1 = cc in absurd (omega arith)
 
 -- whether a use of an operation started at s covers the slot in the row, by one division
 abbrev pub usePass : ℕ → ℕ → ℕ → ℕ → Use → Bool
@@ -41,36 +24,33 @@ usePass ii s slot row u = eqb (u .slot) slot && ltb (cycleOf ii (s + u .offset) 
 
 module _ (ii : ℕ) (pos : 1 ≤ ii) (p : Op) (ok : OpOk p) (s : ℕ) where
   -- a use that passes covers the cell
-  test-hit : (slot row j : ℕ) → row < ii → j < length (p .uses) → usePass ii s slot row (useAt p j) ≡ true → Hit ii p s slot row (useAt p j .offset + cycleOf ii (s + useAt p j .offset) row) j
+  test-hit : (slot row j : ℕ) → row < ii → j < length (p .uses) → usePass ii s slot row (useAt p j) ≡ true → Hit ii p s slot row j (cycleOf ii (s + useAt p j .offset) row)
   test-hit slot row j l m e =
       let u : Use = useAt p j in
       let c : ℕ = cycleOf ii (s + u .offset) row in
-      let g : s + (u .offset + c) ≡ s + u .offset + c = omega arith in
       record {
         inside = m;
         slot = eqb-true (u .slot) slot (and-left (eqb (u .slot) slot) (ltb c (u .duration)) e);
-        begun = omega arith;
-        going = omega (arith, ltb-true c (u .duration) (and-right (eqb (u .slot) slot) (ltb c (u .duration)) e));
-        row = ap (λ (n : ℕ). n % ii) g ∙ cycle-row ii (s + u .offset) row pos l;
+        going = ltb-true c (u .duration) (and-right (eqb (u .slot) slot) (ltb c (u .duration)) e);
+        row = cycle-row ii (s + u .offset) row pos l;
       }
 
   -- and one that covers it passes
-  hit-test : (slot row k j : ℕ) → Hit ii p s slot row k j → usePass ii s slot row (useAt p j) ≡ true
-  hit-test slot row k j h =
+  hit-test : (slot row j i : ℕ) → Hit ii p s slot row j i → usePass ii s slot row (useAt p j) ≡ true
+  hit-test slot row j i h =
       let u : Use = useAt p j in
-      let g : s + u .offset + (k - u .offset) ≡ s + k = omega (arith, h .begun) in
-      let c : cycleOf ii (s + u .offset) row ≤ k - u .offset = cycle-first ii (s + u .offset) row (k - u .offset) pos (ap (λ (n : ℕ). n % ii) g ∙ h .row) in
-      rw (eq-eqb (u .slot) slot (h .slot)) (lt-ltb (cycleOf ii (s + u .offset) row) (u .duration) (omega (arith, h .going, h .begun)))
+      rw (eq-eqb (u .slot) slot (h .slot))
+      (lt-ltb (cycleOf ii (s + u .offset) row) (u .duration) (omega (arith, h .going, cycle-first ii (s + u .offset) row i pos (h .row))))
 
   -- an operation covers the slot in the row exactly where one of its uses does
   pub covers-uses : (slot row : ℕ) → row < ii → coversCell ii p s slot row ≡ anyOf (usePass ii s slot row) (p .uses)
   unfolding coversCell
   covers-uses slot row l =
       same-true (anyOf (sameCell (record { slot = slot; row = row })) (footprint ii p s)) (anyOf (usePass ii s slot row) (p .uses))
-      (λ e. let w = cell-hit ii p s slot row (any-cell slot row (footprint ii p s) e) in
-      some-any (usePass ii s slot row) (p .uses) noUse (w .1) (w .2 .inside) (hit-test slot row (w .0) (w .1) (w .2)))
+      (λ e. let w = cell-hit ii p s ok slot row (leb-true 1 _ (sym (any-count _ (footprint ii p s)) ∙ e)) in
+      some-any (usePass ii s slot row) (p .uses) noUse (w .0) (w .2 .inside) (hit-test slot row (w .0) (w .1) (w .2)))
       (λ e. let w = any-some (usePass ii s slot row) (p .uses) noUse e in
-      cell-any slot row (footprint ii p s) (hit-cell ii p s slot row (useAt p (w .0) .offset + cycleOf ii (s + useAt p (w .0) .offset) row) (w .0) ok (test-hit slot row (w .0) l (w .1) (w .2))))
+      any-count _ (footprint ii p s) ∙ le-leb 1 _ (hit-cell ii p s ok slot row (w .0) _ (test-hit slot row (w .0) l (w .1) (w .2))))
 
 -- of a use v that is read as u, of slot x, offset y and duration z
 module _ (ii s slot row : ℕ) (u v : Use) (same : u ≡ v) (x : ℕ) (a : x ≡ u .slot) where
@@ -108,7 +88,7 @@ own-use l o first j h e m = ap (λ (n : ℕ). getD (allUses l) (n + j) noUse) e 
 module _ (ii : ℕ) (pos : 1 ≤ ii) (p q : Op) (ok : OpOk p) (s t : ℕ) where
   -- two operations conflict exactly where a cycle of a use of the first meets the second
   pub two-uses : conflict ii p s q t ≡ anyOf (λ j. useMeets ii q s t (useAt p j)) (upFrom 0 (length (p .uses)))
-  unfolding conflict coversCell useMeets
+  unfolding conflict share coversCell useMeets
   two-uses = same-test (share (footprint ii p s) (footprint ii q t)) (anyOf uses-test (upFrom 0 (length (p .uses)))) away toward
     where
       cycle-test : ℕ → ℕ → Bool
@@ -118,28 +98,18 @@ module _ (ii : ℕ) (pos : 1 ≤ ii) (p q : Op) (ok : OpOk p) (s t : ℕ) where
       uses-test j = anyOf (cycle-test j) (upFrom 0 (useAt p j .duration))
 
       away : share (footprint ii p s) (footprint ii q t) ≡ false → anyOf uses-test (upFrom 0 (length (p .uses))) ≡ false
-      away e = row-any uses-test 0 (length (p .uses)) (λ j x y. row-any (cycle-test j) 0 (useAt p j .duration) (λ k v w. one j k (omega arith) (omega arith)))
-        where
-          one : (j k : ℕ) → j < length (p .uses) → k < useAt p j .duration → cycle-test j k ≡ false
-          one j k l m =
-              let slot : ℕ = useAt p j .slot in
-              let row : ℕ = (s + useAt p j .offset + k) % ii in
-              let g : s + (useAt p j .offset + k) ≡ s + useAt p j .offset + k = omega arith in
-              let h : Hit ii p s slot row (useAt p j .offset + k) j = record { inside = l; slot = refl; begun = omega arith; going = omega arith; row = ap (λ (x : ℕ). x % ii) g } in
-              none-count (sameCell (record { slot = slot; row = row })) (footprint ii q t) (apart-cells (footprint ii p s) (footprint ii q t) e slot row (hit-cell ii p s slot row (useAt p j .offset + k) j ok h))
+      away e =
+          row-any uses-test 0 (length (p .uses)) (λ j x y. row-any (cycle-test j) 0 (useAt p j .duration) (λ k v w.
+          cells-each (λ c. anyOf (sameCell c) (footprint ii q t)) (footprint ii p s) e (useAt p j .slot) _
+          (hit-cell ii p s ok (useAt p j .slot) _ j k (record { inside = omega arith; slot = refl; going = omega arith; row = refl }))))
 
       toward : anyOf uses-test (upFrom 0 (length (p .uses))) ≡ false → share (footprint ii p s) (footprint ii q t) ≡ false
-      toward e = cells-apart (footprint ii p s) (footprint ii q t) (λ slot row h. one slot row (cell-hit ii p s slot row h))
+      toward e = each-cells (λ c. anyOf (sameCell c) (footprint ii q t)) (footprint ii p s) (λ slot row h. one slot row (cell-hit ii p s ok slot row h))
         where
-          one : (slot row : ℕ) → ((k : ℕ) × (j : ℕ) × Hit ii p s slot row k j) → countOf slot row (footprint ii q t) ≡ 0
-          one slot row (k, j, h) =
-              let d : ℕ = k - useAt p j .offset in
-              let g : s + useAt p j .offset + d ≡ s + k = omega (arith, h .begun) in
-              let u : anyOf (cycle-test j) (upFrom 0 (useAt p j .duration)) ≡ false = any-row uses-test 0 (length (p .uses)) j e (omega arith) (omega (arith, h .inside)) in
-              let f : cycle-test j d ≡ false = any-row (cycle-test j) 0 (useAt p j .duration) d u (omega arith) (omega (arith, h .going, h .begun)) in
-              ap (λ (x : ℕ). countOf x row (footprint ii q t)) (sym (h .slot))
-              ∙ ap (λ (x : ℕ). countOf (useAt p j .slot) x (footprint ii q t)) (sym (ap (λ (x : ℕ). x % ii) g ∙ h .row))
-              ∙ count-none (sameCell (record { slot = useAt p j .slot; row = (s + useAt p j .offset + d) % ii })) (footprint ii q t) f
+          one : (slot row : ℕ) → ((j : ℕ) × (k : ℕ) × Hit ii p s slot row j k) → anyOf (sameCell (record { slot = slot; row = row })) (footprint ii q t) ≡ false
+          one slot row (j, k, h) =
+              rw (← h .slot, ← h .row)
+              (any-row (cycle-test j) 0 (useAt p j .duration) k (any-row uses-test 0 (length (p .uses)) j e (omega arith) (omega (arith, h .inside))) (omega arith) (omega (arith, h .going)))
 
 -- of a use of slot x, offset y and duration z, and an operation q started at t
 module _ (ii : ℕ) (q : Op) (s t : ℕ) (u : Use) (x y z : ℕ) (a : x ≡ u .slot) (b : y ≡ u .offset) (d : z ≡ u .duration) where

@@ -15,8 +15,8 @@ use Rattle.model.specs.Legality.{placed, legal}
 use Rattle.model.specs.Bounds.{Lower}
 use Rattle.model.specs.Search.{answer, probes, Request, Outcome, ended, tryInterval, sweep}
 use Rattle.model.proofs.File.{accepted-ok}
-use Rattle.model.proofs.Legality.{legal-nil}
 use Rattle.model.proofs.Table.{table-nil, cells-nothing}
+use Rattle.model.proofs.Counts.{legal-nil}
 use Rattle.descent.specs.Tree.{resOf, run}
 use Rattle.descent.specs.Descent.{tell, Wrote, Ready, Done, below}
 use Rattle.search.specs.Sweep.{Clear, outcomeOf, SweptIs, Ranged}
@@ -138,7 +138,7 @@ module _ {f starts₀ rows₀ : List ℕ} {n least cap h budget : ℕ} (clear : 
         held =
             rw (cells-nothing (loopOf f) ii (placed []) (λ o. refl), pass .rows-same)
             (table-nil 2 ii rows₀ (omega (arith, clear .long, clear .capped)) (λ r l. clear .clear r (omega (arith, clear .capped))));
-        fine = legal-nil (loopOf f) ii;
+        fine = legal-nil (loopOf f) ii (accepted-ok f (clear .accepted)) (omega (arith, clear .some, pass .from-least));
       }
 
       -- what it comes to

@@ -8,7 +8,7 @@ use native.Mathlib.Omega.{arith}
 use lib.ListN.{length, getD, take, drop, length-map, length-append, length-drop}
 use lib.Seq.{length-take-le, take-at, drop-at}
 use Rattle.model.specs.Refusals.{Refusal, firstRefusal, Answer, answered, settled}
-use Rattle.model.specs.Loop.{size}
+use Rattle.model.specs.Loop.{size, LoopOk}
 use Rattle.model.specs.File.{loopOf}
 use Rattle.model.specs.Legality.{Placing, legalAt}
 use Rattle.model.specs.Table.{coveredAt, digitOf}
@@ -190,7 +190,9 @@ placed-again : {u : Setup} {st : State} {rest rest₁ : List ℕ} {s s₁ s₂ :
     → Stands u st rest s rows → OrderOf (stateOf s .starts) os → Stands u (start u) rest₁ s₁ rows₁ → Run s₁ rows₁ (placings (stateOf s .starts) os) rs₂ s₂ rows₂
     → AllDone rs₂ × (stateOf s₂ .starts ≡ stateOf s .starts) × (take (u .ii) rows₂ ≡ take (u .ii) rows)
 placed-again {u} {s} os a q o r =
-    let w = replay u (stateOf s .starts) (subst (λ (v : Setup). Good v (stateOf s .starts)) (a .setup) (valid-good (a .valid))) os q in
+    let ok = subst (λ (v : Setup). LoopOk (v .loop)) (a .setup) (accepted-ok (fileOf s) (a .valid .board .accepted)) in
+    let pos = subst (λ (v : Setup). 1 ≤ v .ii) (a .setup) (a .valid .board .numbers .some) in
+    let w = replay u ok pos (stateOf s .starts) (subst (λ (v : Setup). Good v (stateOf s .starts)) (a .setup) (valid-good (a .valid))) os q in
     let b = ran o r in (
       subst AllDone (sym (b .0)) (w .0),
       ap (λ (x : State). x .starts) (b .1 .state ∙ w .1),

@@ -12,11 +12,11 @@ use Rattle.model.specs.Refusals.{Refusal, firstRefusal, Answer, answered, refus
 use Rattle.model.specs.Loop.{size}
 use Rattle.model.specs.File.{longest, loopOf, Accepted, fileChecks}
 use Rattle.model.specs.Session.{Setup, Starts, openChecks, openFile, openRows, start}
-use Rattle.model.proofs.File.{layout}
+use Rattle.model.proofs.File.{layout, accepted-ok}
 use Rattle.model.proofs.Lists.{getD-filled}
 use Rattle.model.proofs.Checks.{passes-left, passes-right, passes-head, passes-tail, at-most, at-least}
-use Rattle.model.proofs.Legality.{legal-nothing}
 use Rattle.model.proofs.Table.{table-nil, cells-nothing}
+use Rattle.model.proofs.Counts.{legal-nothing}
 use Rattle.reservation.specs.Seats.{seatOf, seats}
 use Rattle.reservation.proofs.Stores.{cleared, cleared-length}
 use Rattle.board.specs.Board.{startsOf, setupAs, Board}
@@ -105,7 +105,7 @@ module _ (f : List ℕ) (ii h : ℕ) (rows : List ℕ) where
                   whole = length-replicate {A = ℕ} 64 65535;
                   blank = λ o l. getD-filled 64 o 65535;
                   near = λ o t p. never o t (sym (nowhere-yet o) ∙ p);
-                  fine = legal-nothing (loopOf f) ii (seats (replicate 64 65535)) nowhere-yet;
+                  fine = legal-nothing (loopOf f) ii (accepted-ok f open-accepted) open-some (seats (replicate 64 65535)) nowhere-yet;
                 };
             held =
                 rw (cells-nothing (loopOf f) ii (seats (replicate 64 65535)) nowhere-yet, clear)

@@ -1,0 +1,76 @@
+-- There is a first place without room exactly where there is no room, over any capacities; and so at capacity 1 exactly where there is a conflict. Assumes nothing.
+use mathlib.Core.Path.{_≡_, refl, sym, _∙_}
+use mathlib.Core.Bool.{true, false}
+use mathlib.Core.Option.{none}
+use Prim.Native.Nat.{ℕ, _+_, _-_, _%_, _≤_, _<_}
+use native.Mathlib.Decide.{decLt, decLe}
+use native.Mathlib.Omega.{arith}
+use borrow.Author.Tests.{le-leb, lt-leb, leb-false, lt-ltb, le-ltb, eq-eqb, eqb-true, not-true}
+use lib.Dec.{eqb}
+use lib.ListN.{length}
+use Rattle.model.specs.Loop.{Use, Op, Loop, noUse, size, opAt, useAt, OpOk, LoopOk}
+use Rattle.model.specs.Legality.{Placing, footprint, conflicts}
+use Rattle.model.specs.Table.{countOf}
+use Rattle.model.specs.Counts.{Capacity, single, Usage, used, room, roomFor, cyclesIn, takenAt, firstTaken}
+use Rattle.model.proofs.Lists.{false-not, count-before, count-last}
+use Rattle.model.proofs.Firsts.{grid-none, none-grid}
+use Rattle.model.proofs.Conflicts.{Hit, own-count, cell-hit}
+use Rattle.model.proofs.Counts.{room-each, each-room, room-conflicts}
+
+module _ (cap : Capacity) (u : Usage) (ii : ℕ) (p : Op) (t : ℕ) (ok : OpOk p) where
+  -- the cell that use j covers in its own cycle i has room yet
+  abbrev Spare : ℕ → ℕ → Type 0
+  Spare j i =
+      let x : ℕ = t + useAt p j .offset in
+      u (useAt p j .slot) ((x + i) % ii) + cyclesIn ii x ((x + i) % ii) i < cap (useAt p j .slot)
+
+  -- nothing is taken exactly where each has
+  taken-spare : firstTaken cap u ii p t ≡ none → (j i : ℕ) → j < length (p .uses) → i < useAt p j .duration → Spare j i
+  unfolding firstTaken
+  taken-spare e j i l m =
+      let v : Use = useAt p j in
+      let a : t + (v .offset + i) ≡ t + v .offset + i = omega arith in
+      let b : v .offset + i - v .offset ≡ i = omega arith in
+      leb-false _ _
+      (rw (le-leb (v .offset) (v .offset + i) (omega arith), lt-ltb (v .offset + i) (v .offset + v .duration) (omega arith), a, b)
+      at (none-grid (takenAt cap u ii t) (p .uses) noUse 16 e (v .offset + i) j (omega (arith, ok .each j l .ends)) l))
+
+  spare-taken : ((j i : ℕ) → j < length (p .uses) → i < useAt p j .duration → Spare j i) → firstTaken cap u ii p t ≡ none
+  unfolding firstTaken
+  spare-taken h = grid-none (takenAt cap u ii t) (p .uses) noUse 16 (λ k j l m. go k j m (decLe (useAt p j .offset) k) (decLt k (useAt p j .offset + useAt p j .duration)))
+    where
+      go : (k j : ℕ) → j < length (p .uses) → Dec (useAt p j .offset ≤ k) → Dec (k < useAt p j .offset + useAt p j .duration) → takenAt cap u ii t k (useAt p j) ≡ false
+      go k j m (no a) b = rw (lt-leb (useAt p j .offset) k (omega arith))
+      go k j m (yes a) (no b) = rw (le-leb (useAt p j .offset) k a, le-ltb k (useAt p j .offset + useAt p j .duration) (omega arith))
+      go k j m (yes a) (yes b) =
+          let e : t + useAt p j .offset + (k - useAt p j .offset) ≡ t + k = omega arith in
+          rw (le-leb (useAt p j .offset) k a, lt-ltb k (useAt p j .offset + useAt p j .duration) b) (lt-leb _ _ (rw e at (h j (k - useAt p j .offset) m (omega arith))))
+
+  -- nothing taken: there is room
+  pub taken-room : firstTaken cap u ii p t ≡ none → room cap u (footprint ii p t) ≡ true
+  taken-room e = each-room cap u (footprint ii p t) (λ s r h. go s r h (cell-hit ii p t ok s r h))
+    where
+      go : (s r : ℕ) → 1 ≤ countOf s r (footprint ii p t) → (j : ℕ) × (i : ℕ) × Hit ii p t s r j i → u s r + countOf s r (footprint ii p t) ≤ cap s
+      go s r h (j, i, c) =
+          let own = own-count ii p t ok j r (c .inside) in
+          let w = count-last (λ i. eqb r ((t + useAt p j .offset + i) % ii)) (useAt p j .duration) (omega (arith, rw (← c .slot) at h)) in
+          rw (← c .slot) (omega (arith, w .3, rw (← eqb-true r _ (w .2)) at (taken-spare e j (w .0) (c .inside) (w .1))))
+
+  -- and the other way round
+  pub room-taken : room cap u (footprint ii p t) ≡ true → firstTaken cap u ii p t ≡ none
+  room-taken e = spare-taken (λ j i l m.
+      let x : ℕ = t + useAt p j .offset in
+      let r : ℕ = (x + i) % ii in
+      let own = own-count ii p t ok j r l in
+      let c = count-before (λ i. eqb r ((x + i) % ii)) i (useAt p j .duration) m (eq-eqb r r refl) in
+      omega (arith, room-each cap u (footprint ii p t) e (useAt p j .slot) r))
+
+-- at capacity 1 nothing is taken exactly where the operation conflicts neither with itself nor with a placed one
+module _ (l : Loop) (ii : ℕ) (ok : LoopOk l) (pos : 1 ≤ ii) (f : Placing) (o t : ℕ) (inside : o < size l) (open-yet : f o ≡ none) where
+  pub taken-conflicts : firstTaken single (used l ii f) ii (opAt l o) t ≡ none → conflicts l ii f o t ≡ false
+  unfolding roomFor
+  taken-conflicts e = not-true _ (sym (room-conflicts l ii ok pos f o t inside open-yet) ∙ taken-room single (used l ii f) ii (opAt l o) t (ok .op-ok o inside) e)
+
+  pub conflicts-taken : conflicts l ii f o t ≡ false → firstTaken single (used l ii f) ii (opAt l o) t ≡ none
+  unfolding roomFor
+  conflicts-taken e = room-taken single (used l ii f) ii (opAt l o) t (ok .op-ok o inside) (room-conflicts l ii ok pos f o t inside open-yet ∙ false-not _ e)
