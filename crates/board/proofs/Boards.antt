@@ -13,12 +13,12 @@ use lib.Seq.{getD-set-same, getD-set-other, set-out}
 use Rattle.model.specs.Loop.{Loop, size, opAt, LoopOk}
 use Rattle.model.specs.File.{loopOf, Accepted}
 use Rattle.model.specs.Legality.{Placing, legalAt, placeAt, fitsAt}
-use Rattle.model.specs.Table.{IsTable, cellsOf}
+use Rattle.model.specs.Table.{rowBase, IsTable, cellsOf}
 use Rattle.model.proofs.Lists.{and-both}
 use Rattle.model.proofs.File.{accepted-ok}
 use Rattle.model.proofs.Legality.{fits-conflict, Part, place-same}
 use Rattle.model.proofs.Counts.{legal-part, legal-place}
-use Rattle.reservation.specs.Rows.{overUses, withBit, lessBit, UsesIn}
+use Rattle.reservation.specs.Rows.{overUses, withOne, lessOne, UsesIn}
 use Rattle.reservation.specs.Seats.{seatOf, seats}
 use Rattle.reservation.proofs.RowUpdates.{uses-rest}
 use Rattle.reservation.proofs.Placings.{legal-digits, reserve-place, reserve-uses, release-place, release-uses}
@@ -178,37 +178,37 @@ overOp g l ii o t rows = overUses g ii t (opAt l o .uses) (length (opAt l o .use
 module _ {f : List ℕ} {ii h : ℕ} {xs rows : List ℕ} (o t : ℕ) (b : Board f ii h xs rows) (inside : o < size (loopOf f)) (near : t < h) where
   module _ (free : seats xs o ≡ none) (fits : fitsAt (loopOf f) ii (seats xs) o t ≡ true) where
     -- an operation that fits can be reserved
-    pub put-uses : UsesIn 0 rows ii t (opAt (loopOf f) o .uses)
+    pub put-uses : UsesIn rowBase 0 rows ii t (opAt (loopOf f) o .uses)
     put-uses =
         let ok = accepted-ok f (b .accepted) in
         reserve-uses (loopOf f) ii (seats xs) o t ok (b .numbers .some) inside free rows (b .held) (legal-digits (loopOf f) ii (seats xs) ok (b .sane .fine))
         (omega (arith, b .numbers .far)) (fits-conflict (loopOf f) ii (seats xs) o t fits)
 
     -- and is put in then
-    pub put-is : IsPut f ii o t xs rows (set xs o t) (overOp withBit (loopOf f) ii o t rows)
+    pub put-is : IsPut f ii o t xs rows (set xs o t) (overOp (withOne rowBase) (loopOf f) ii o t rows)
     put-is = record {
       starts-are = refl;
       held = rw (put-seats xs o t (board-inside o b inside) (λ e. omega (arith, b .numbers .far)))
           (reserve-place (loopOf f) ii (seats xs) o t (accepted-ok f (b .accepted)) (b .numbers .some) inside free rows (b .held));
-      rest = uses-rest withBit ii t (opAt (loopOf f) o .uses) (length (opAt (loopOf f) o .uses)) rows (b .numbers .some);
+      rest = uses-rest (withOne rowBase) ii t (opAt (loopOf f) o .uses) (length (opAt (loopOf f) o .uses)) rows (b .numbers .some);
     }
 
   module _ (there : getD xs o 65535 ≡ t) where
     -- the table with the operation, by the starts without it
-    lift-held : IsTable 2 ii (cellsOf (loopOf f) ii (placeAt (seats (set xs o 65535)) o t)) rows
+    lift-held : IsTable rowBase ii (cellsOf (loopOf f) ii (placeAt (seats (set xs o 65535)) o t)) rows
     lift-held = rw (← lift-seats xs o t (board-inside o b inside) there (λ e. omega (arith, b .numbers .far))) (b .held)
 
     -- an operation that is placed can be released
-    pub lift-uses : UsesIn 1 rows ii t (opAt (loopOf f) o .uses)
+    pub lift-uses : UsesIn rowBase 1 rows ii t (opAt (loopOf f) o .uses)
     lift-uses =
         let ok = accepted-ok f (b .accepted) in
         release-uses (loopOf f) ii (seats (set xs o 65535)) o t ok (b .numbers .some) inside (lift-open xs o (board-inside o b inside)) (omega (arith, b .numbers .far)) rows lift-held
         (rw (← lift-seats xs o t (board-inside o b inside) there (λ e. omega (arith, b .numbers .far))) (legal-digits (loopOf f) ii (seats xs) ok (b .sane .fine)))
 
     -- and is taken out then
-    pub lift-is : IsPut f ii o 65535 xs rows (set xs o 65535) (overOp lessBit (loopOf f) ii o t rows)
+    pub lift-is : IsPut f ii o 65535 xs rows (set xs o 65535) (overOp (lessOne rowBase) (loopOf f) ii o t rows)
     lift-is = record {
       starts-are = refl;
       held = release-place (loopOf f) ii (seats (set xs o 65535)) o t (accepted-ok f (b .accepted)) (b .numbers .some) inside (lift-open xs o (board-inside o b inside)) rows lift-held;
-      rest = uses-rest lessBit ii t (opAt (loopOf f) o .uses) (length (opAt (loopOf f) o .uses)) rows (b .numbers .some);
+      rest = uses-rest (lessOne rowBase) ii t (opAt (loopOf f) o .uses) (length (opAt (loopOf f) o .uses)) rows (b .numbers .some);
     }

@@ -12,10 +12,11 @@ use Rattle.model.specs.Loop.{size, opAt, LoopOk}
 use Rattle.model.specs.File.{loopOf}
 use Rattle.model.specs.Legality.{Placing, selfConflict, firstBreach, conflicts}
 use Rattle.model.specs.Session.{placedIn, isPlaced, absent, taken, late, unmet, nowhere, checks, place, force, remove}
+use Rattle.model.specs.Table.{rowBase}
 use Rattle.model.proofs.Lists.{getD-filled}
 use Rattle.model.proofs.File.{accepted-ok}
 use Rattle.model.proofs.Checks.{refusal-append, refusal-early, passes-head, passes-tail, found-refused, found-passed}
-use Rattle.reservation.specs.Place.{firstTaken}
+use Rattle.reservation.specs.Place.{firstMet}
 use Rattle.reservation.specs.Seats.{seatOf, seats}
 use Rattle.reservation.proofs.Seats.{seat-none, seat-some}
 use Rattle.reservation.proofs.Placings.{legal-digits, free-conflict, conflict-free}
@@ -132,7 +133,7 @@ module _ (f : List ℕ) (ii h : ℕ) (xs rows : List ℕ) (b : Board f ii h xs r
           ∙ ap (λ (g : Placing). firstRefusal (check (conflicts (loopOf f) ii g o t) 17 0 ∷ [])) same-seats
 
       -- nothing is taken
-      pub place-fine : firstTaken ii rows t (opAt (loopOf f) o .uses) ≡ none → firstRefusal (checks (setupAs f ii h) (place o t) (bare f xs)) ≡ none
+      pub place-fine : firstMet rowBase ii rows t (opAt (loopOf f) o .uses) ≡ none → firstRefusal (checks (setupAs f ii h) (place o t) (bare f xs)) ≡ none
       place-fine e =
           let ok : LoopOk (loopOf f) = accepted-ok f (b .accepted) in
           place-held
@@ -141,7 +142,7 @@ module _ (f : List ℕ) (ii h : ℕ) (xs rows : List ℕ) (b : Board f ii h xs r
           (legal-digits (loopOf f) ii (seats xs) ok (b .sane .fine)) e)
 
       -- something is
-      pub place-clash : (firstTaken ii rows t (opAt (loopOf f) o .uses) ≡ none → ⊥)
+      pub place-clash : (firstMet rowBase ii rows t (opAt (loopOf f) o .uses) ≡ none → ⊥)
           → firstRefusal (checks (setupAs f ii h) (place o t) (bare f xs)) ≡ some (record { number = 17; detail = 0 })
       place-clash n = place-held ∙ conflict-last _ (pick (conflicts (loopOf f) ii (seats xs) o t) refl)
         where

@@ -8,7 +8,7 @@ use lib.ListN.{length, getD, set, take, drop}
 use Rattle.model.specs.Loop.{Loop, size}
 use Rattle.model.specs.File.{loopOf, Accepted}
 use Rattle.model.specs.Legality.{legalAt, fitsAt}
-use Rattle.model.specs.Table.{IsTable, cellsOf}
+use Rattle.model.specs.Table.{rowBase, IsTable, cellsOf}
 use Rattle.model.specs.Session.{Setup, Starts, State}
 use Rattle.reservation.specs.Seats.{seatOf, seats}
 
@@ -51,7 +51,7 @@ pub record Board (f : List ℕ) (ii h : ℕ) (xs rows : List ℕ) : Type 0 where
   pub accepted : Accepted f
   pub numbers : Numbers ii h
   pub sane : Sane (loopOf f) ii h xs
-  pub held : IsTable 2 ii (cellsOf (loopOf f) ii (seats xs)) rows
+  pub held : IsTable rowBase ii (cellsOf (loopOf f) ii (seats xs)) rows
 
 -- operation o, which is not placed, fits at t
 pub record MayPut (f : List ℕ) (ii o t : ℕ) (xs rows : List ℕ) : Type 0 where
@@ -66,5 +66,5 @@ pub record MayPut (f : List ℕ) (ii o t : ℕ) (xs rows : List ℕ) : Type 0 wh
 -- operation o has the number x, the rows are the table of that, and later rows are as they were
 pub record IsPut (f : List ℕ) (ii o x : ℕ) (xs rows xs′ rows′ : List ℕ) : Type 0 where
   pub starts-are : xs′ ≡ set xs o x
-  pub held : IsTable 2 ii (cellsOf (loopOf f) ii (seats xs′)) rows′
+  pub held : IsTable rowBase ii (cellsOf (loopOf f) ii (seats xs′)) rows′
   pub rest : drop ii rows′ ≡ drop ii rows

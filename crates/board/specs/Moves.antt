@@ -11,7 +11,7 @@ use Rattle.model.specs.Refusals.{Refusal, Answer, answered, refused}
 use Rattle.model.specs.Loop.{Loop, depAt, size}
 use Rattle.model.specs.File.{loopOf, Accepted}
 use Rattle.model.specs.Legality.{Placing, touches, breaks}
-use Rattle.model.specs.Table.{IsTable, cellsOf}
+use Rattle.model.specs.Table.{rowBase, IsTable, cellsOf}
 use Rattle.model.specs.Session.{Call, inTheWay, step}
 use Rattle.model.specs.Session as model
 use Rattle.reservation.specs.Seats.{seats}
@@ -93,5 +93,5 @@ pub record Agrees (k : ℕ) (wanted xs : List ℕ) : Type 0 where
 -- the starts are those that are wanted, the rows their table, and later rows as they were
 pub record Restored (f : List ℕ) (ii : ℕ) (wanted rows xs′ rows′ : List ℕ) : Type 0 where
   pub starts-are : xs′ ≡ wanted
-  pub held : IsTable 2 ii (cellsOf (loopOf f) ii (seats wanted)) rows′
+  pub held : IsTable rowBase ii (cellsOf (loopOf f) ii (seats wanted)) rows′
   pub rest : drop ii rows′ ≡ drop ii rows

@@ -15,14 +15,14 @@ use lib.Seq.{append-snoc, take-suc-set, take-take, take-set-le, length-take-le, 
 use Rattle.model.specs.Loop.{Op, Loop, size, opAt, firstUseOf, LoopOk}
 use Rattle.model.specs.File.{loopOf}
 use Rattle.model.specs.Legality.{Placing, placed, legalAt, legal, placeAt, conflicts, fitsAt}
-use Rattle.model.specs.Table.{cellsOf, IsTable, Digits}
+use Rattle.model.specs.Table.{rowBase, cellsOf, IsTable, Digits}
 use Rattle.model.proofs.Lists.{false-not, and-both}
 use Rattle.model.proofs.File.{accepted-ok}
 use Rattle.model.proofs.StartLists.{placed-after, placed-snoc}
 use Rattle.model.proofs.Legality.{fits-tests, fits-conflict}
 use Rattle.model.proofs.Counts.{legal-prefix, legal-place, legal-snoc}
-use Rattle.reservation.specs.Rows.{overUses, withBit, lessBit, UsesIn}
-use Rattle.reservation.specs.Place.{firstTaken}
+use Rattle.reservation.specs.Rows.{overUses, withOne, lessOne, UsesIn}
+use Rattle.reservation.specs.Place.{firstMet}
 use Rattle.reservation.proofs.Placings.{legal-digits, reserve-place, release-uses, free-conflict, conflict-free, reserve-uses, reserve-release}
 use Rattle.descent.specs.Span.{inside, allowed, WindowIs}
 use Rattle.descent.specs.Tree.{under, treeAnswer, treeProbes, Res, broke, all, no-more, rest, run, runO}
@@ -297,7 +297,7 @@ module _ {f starts rows : List ℕ} {op n ii h s first : ℕ} (asked : MayTry f 
 
   -- the rows with the operation reserved
   abbrev reserved : List ℕ
-  reserved = overUses withBit ii s (p .uses) (length (p .uses)) rows
+  reserved = overUses (withOne rowBase) ii s (p .uses) (length (p .uses)) rows
 
   -- the loop is in order
   loop-ok : LoopOk (loopOf f)
@@ -328,7 +328,7 @@ module _ {f starts rows : List ℕ} {op n ii h s first : ℕ} (asked : MayTry f 
   digits = legal-digits (loopOf f) ii placing loop-ok (ready .fine)
 
   -- it meets a taken cell: nothing begins with it
-  pub unfit : {b : ℕ} → (firstTaken ii rows s (p .uses) ≡ none → ⊥) → Done (branch f starts op n ii h s b) n op (take op starts ++ s ∷ []) starts starts (Nothing b)
+  pub unfit : {b : ℕ} → (firstMet rowBase ii rows s (p .uses) ≡ none → ⊥) → Done (branch f starts op n ii h s b) n op (take op starts ++ s ∷ []) starts starts (Nothing b)
   unfit {b} taken =
       let below-s = unfit-below (loopOf f) ii loop-ok (ready .some) (take op starts) s in-loop (ap (λ (o : ℕ). fitsAt (loopOf f) ii placing o s) len ∙ no-fit (fitsAt (loopOf f) ii placing op s) refl) in
       let r : branch f starts op n ii h s b ≡ no-more b = run-unfit (under (under (legal (loopOf f) ii) (take op starts)) (s ∷ [])) h (n - op - 1) b below-s in
@@ -347,17 +347,17 @@ module _ {f starts rows : List ℕ} {op n ii h s first : ℕ} (asked : MayTry f 
   next-placing : placed (take (op + 1) (set starts op s)) ≡ placeAt placing op s
   next-placing = ap placed one-more ∙ placed-snoc (take op starts) s ∙ ap (λ (o : ℕ). placeAt placing o s) len
 
-  module _ (free : firstTaken ii rows s (p .uses) ≡ none) where
+  module _ (free : firstMet rowBase ii rows s (p .uses) ≡ none) where
     -- it does not conflict
     clear : conflicts (loopOf f) ii placing op s ≡ false
     clear = free-conflict (loopOf f) ii placing op s loop-ok (ready .some) op-in open-yet rows (ready .held) digits free
 
     -- so it can be reserved
-    pub can-reserve : UsesIn 0 rows ii s (p .uses)
+    pub can-reserve : UsesIn rowBase 0 rows ii s (p .uses)
     can-reserve = reserve-uses (loopOf f) ii placing op s loop-ok (ready .some) op-in open-yet rows (ready .held) digits (omega (arith, asked .start-near, ready .near)) clear
 
     -- the table with it
-    with-it : {rows₁ : List ℕ} → rows₁ ≡ reserved → IsTable 2 ii (cellsOf (loopOf f) ii (placeAt placing op s)) rows₁
+    with-it : {rows₁ : List ℕ} → rows₁ ≡ reserved → IsTable rowBase ii (cellsOf (loopOf f) ii (placeAt placing op s)) rows₁
     with-it e = rw e (reserve-place (loopOf f) ii placing op s loop-ok (ready .some) op-in open-yet rows (ready .held))
 
     -- it fits
@@ -384,7 +384,7 @@ module _ {f starts rows : List ℕ} {op n ii h s first : ℕ} (asked : MayTry f 
       near = ready .near;
       long = omega (arith, ready .long, length-set starts op s);
       early = λ o l. pick o (omega arith) (ℕ-discrete o op);
-      held = subst (λ (g : Placing). IsTable 2 ii (cellsOf (loopOf f) ii g) rows₁) (sym next-placing) (with-it e);
+      held = subst (λ (g : Placing). IsTable rowBase ii (cellsOf (loopOf f) ii g) rows₁) (sym next-placing) (with-it e);
       fine = ap (legalAt (loopOf f) ii) next-placing ∙ legal-with;
     }
       where
@@ -394,14 +394,14 @@ module _ {f starts rows : List ℕ} {op n ii h s first : ℕ} (asked : MayTry f 
 
     module _ {rows₁ rows₂ : List ℕ} (put : rows₁ ≡ reserved) (same : rows₂ ≡ rows₁) where
       -- the rows as they were after reserving: it can be released
-      pub can-release : UsesIn 1 rows₂ ii s (p .uses)
+      pub can-release : UsesIn rowBase 1 rows₂ ii s (p .uses)
       can-release =
           release-uses (loopOf f) ii placing op s loop-ok (ready .some) op-in open-yet (omega (arith, asked .start-near, ready .near)) rows₂ (with-it (same ∙ put))
           (legal-digits (loopOf f) ii (placeAt placing op s) loop-ok legal-with)
 
       -- which gives the first rows back
-      pub given-back : {rows₃ : List ℕ} → rows₃ ≡ overUses lessBit ii s (p .uses) (length (p .uses)) rows₂ → rows₃ ≡ rows
-      given-back e = e ∙ ap (overUses lessBit ii s (p .uses) (length (p .uses))) (same ∙ put) ∙ reserve-release ii s p (loop-ok .op-ok op op-in) (ready .some) (cellsOf (loopOf f) ii placing) rows (ready .held)
+      pub given-back : {rows₃ : List ℕ} → rows₃ ≡ overUses (lessOne rowBase) ii s (p .uses) (length (p .uses)) rows₂ → rows₃ ≡ rows
+      given-back e = e ∙ ap (overUses (lessOne rowBase) ii s (p .uses) (length (p .uses))) (same ∙ put) ∙ reserve-release ii s p (loop-ok .op-ok op op-in) (ready .some) (cellsOf (loopOf f) ii placing) rows (ready .held)
 
   -- what the operations after it come to is what its branch comes to
   pub back : (b : ℕ) {later : List ℕ} {r : Found} → Done (below f (set starts op s) (op + 1) n ii h b) n (op + 1) (take (op + 1) (set starts op s)) (set starts op s) later r

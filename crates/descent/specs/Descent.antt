@@ -7,7 +7,7 @@ use lib.ListN.{length, take}
 use Rattle.model.specs.Loop.{size, firstUseOf}
 use Rattle.model.specs.File.{loopOf, Accepted}
 use Rattle.model.specs.Legality.{placed, legal}
-use Rattle.model.specs.Table.{IsTable, cellsOf}
+use Rattle.model.specs.Table.{rowBase, IsTable, cellsOf}
 use Rattle.descent.specs.Span.{Early, allowed}
 use Rattle.descent.specs.Tree.{Res, broke, all, no-more, under, run}
 use Rattle.descent.specs.declared.Found.{Found}
@@ -35,7 +35,7 @@ pub record Ready (f starts rows : List ℕ) (op n ii h : ℕ) : Type 0 where
   pub near : h ≤ 4096
   pub long : n ≤ length starts
   pub early : Early op starts
-  pub held : IsTable 2 ii (cellsOf (loopOf f) ii (placed (take op starts))) rows
+  pub held : IsTable rowBase ii (cellsOf (loopOf f) ii (placed (take op starts))) rows
   pub fine : legal (loopOf f) ii (take op starts) ≡ true
 
 -- and may try start s of that operation: the dependences with itself and the operations before it allow s, and its first use has the number `first`

@@ -13,7 +13,7 @@ use lib.Seq.{getD-set-same, getD-set-other, getD-take, take-take, take-append-le
 use Rattle.model.specs.Refusals.{Refusal, firstRefusal, Answer, answered, settled}
 use Rattle.model.specs.Loop.{size, LoopOk}
 use Rattle.model.specs.Legality.{Placing, legalAt, placeAt, firstBreach, conflicts, fitsAt}
-use Rattle.model.specs.Table.{tableOf}
+use Rattle.model.specs.Table.{rowBase, tableOf}
 use Rattle.model.specs.Session.{Setup, Starts, State, start, placedIn, stateTable, Call, place, force, remove, checkpoint, release, rollback, Reply, done, numbered, isPlaced, nowhere, checks, effect, stepAs, step, after, replies}
 use Rattle.model.specs.Undo.{gives, NoneGives, markedBy, startOr, placings, times, OrderOf, AllDone}
 use Rattle.model.proofs.Lists.{getD-filled, and-left, and-right, first-none}
@@ -130,7 +130,7 @@ start-nowhere n = fun-ext (λ o. getD-filled n o none)
 
 -- so its table is zeros
 pub start-table : (u : Setup) → stateTable u (start u) ≡ replicate (u .ii) 0
-start-table u = ap (tableOf 2 (u .ii)) (cells-nothing (u .loop) (u .ii) _ (λ o. getD-filled (size (u .loop)) o none)) ∙ table-nil-all 2 (u .ii)
+start-table u = ap (tableOf rowBase (u .ii)) (cells-nothing (u .loop) (u .ii) _ (λ o. getD-filled (size (u .loop)) o none)) ∙ table-nil-all 2 (u .ii)
 
 -- ---- an operation that is placed
 

@@ -26,6 +26,10 @@ rowNumber base cells r = number base (λ j. countOf (suc j) r cells) 24
 unfoldable pub tableOf : ℕ → ℕ → List Cell → List ℕ
 tableOf base ii cells = map (rowNumber base cells) (upFrom 0 ii)
 
+-- the base of the digits of a session's and a search's rows: a slot holds one operation in a row, so a digit is a bit
+abbrev pub rowBase : ℕ
+rowBase = 2
+
 -- the cells of an operation, none where it is not placed
 abbrev pub opCells : ℕ → Op → Option ℕ → List Cell
 opCells ii p none = []
@@ -37,7 +41,7 @@ cellsOf l ii f = flatMap (λ o. opCells ii (opAt l o) (f o)) (upFrom 0 (size l))
 
 -- the table of a placing: a bit is 1 exactly where a placed operation covers that slot and row, while nothing conflicts
 abbrev pub tableAt : Loop → ℕ → Placing → List ℕ
-tableAt l ii f = tableOf 2 ii (cellsOf l ii f)
+tableAt l ii f = tableOf rowBase ii (cellsOf l ii f)
 
 -- whether a placed operation covers slot s in row r
 unfoldable pub coveredAt : Loop → ℕ → Placing → (s r : ℕ) → Bool

@@ -7,7 +7,7 @@ use native.Mathlib.Decide.{decLe}
 use native.Mathlib.Nat.{zero-add, mod-lt}
 use native.Mathlib.Omega.{arith}
 use borrow.Author.Tests.{leb-true, le-leb, lt-leb, eq-eqb}
-use lib.Dec.{eqb, leb, lit≤}
+use lib.Dec.{eqb, leb}
 use lib.ListN.{length, getD}
 use Rattle.model.specs.Loop.{Use, Op, noUse, useAt, OpOk}
 use Rattle.model.specs.Legality.{Cell, covers}
@@ -18,18 +18,18 @@ use Rattle.model.proofs.Lists.{same-true}
 use Rattle.model.proofs.Firsts.{grid-same}
 use Rattle.model.proofs.Table.{digit-count}
 use Rattle.model.proofs.Cells.{cycles-again}
-use Rattle.reservation.specs.Place.{takenAt, firstTaken}
+use Rattle.reservation.specs.Place.{metAt, firstMet}
 
-module _ (ii : ℕ) (cells : List Cell) (rows : List ℕ) (t : IsTable 2 ii cells rows) (d : Digits 2 cells) (p : Op) (ok : OpOk p) (pos : 1 ≤ ii) (s : ℕ) where
+module _ {base : ℕ} (wide : 2 ≤ base) (ii : ℕ) (cells : List Cell) (rows : List ℕ) (t : IsTable base ii cells rows) (d : Digits 2 cells) (p : Op) (ok : OpOk p) (pos : 1 ≤ ii) (s : ℕ) where
   -- a use meets a taken cell exactly where the cell has no room beside the table's and the use's own earlier ones
-  taken-bit : (k j : ℕ) → j < length (p .uses) → counts.takenAt single (λ a r. countOf a r cells) ii s k (useAt p j) ≡ takenAt ii rows s k (useAt p j)
+  taken-bit : (k j : ℕ) → j < length (p .uses) → counts.takenAt single (λ a r. countOf a r cells) ii s k (useAt p j) ≡ metAt base ii rows s k (useAt p j)
   taken-bit k j l = pick (decLe (v .offset) k)
     where
       v : Use
       v = useAt p j
 
       bit : ℕ
-      bit = digitOf 2 (getD rows ((s + k) % ii) 0) (v .slot)
+      bit = digitOf base (getD rows ((s + k) % ii) 0) (v .slot)
 
       own : ℕ
       own = cyclesIn ii (s + v .offset) ((s + k) % ii) (k - v .offset)
@@ -45,14 +45,14 @@ module _ (ii : ℕ) (cells : List Cell) (rows : List ℕ) (t : IsTable 2 ii cell
           ∙ same-true (leb ii (k - v .offset)) (leb (v .offset + ii) k)
           (λ q. le-leb (v .offset + ii) k (omega (arith, leb-true ii (k - v .offset) q))) (λ q. le-leb ii (k - v .offset) (omega (arith, leb-true (v .offset + ii) k q)))
 
-      pick : Dec (v .offset ≤ k) → counts.takenAt single (λ a r. countOf a r cells) ii s k (useAt p j) ≡ takenAt ii rows s k (useAt p j)
+      pick : Dec (v .offset ≤ k) → counts.takenAt single (λ a r. countOf a r cells) ii s k (useAt p j) ≡ metAt base ii rows s k (useAt p j)
       pick (yes a) =
+          let n : bit ≡ countOf (v .slot) ((s + k) % ii) cells = digit-count base ii (v .slot) ((s + k) % ii) cells rows t (λ a r. omega (arith, d a r, wide)) (mod-lt (s + k) pos) (ok .each j l .slot-low) (ok .each j l .slot-high) in
           ap (λ (b : Bool). covers k v && b)
-          (ap (λ (n : ℕ). leb 1 (n + own)) (sym (digit-count 2 ii (v .slot) ((s + k) % ii) cells rows t d (mod-lt (s + k) pos) (ok .each j l .slot-low) (ok .each j l .slot-high)))
-          ∙ either bit own (mod-lt _ (lit≤ tt)) ∙ ap (λ (b : Bool). eqb bit 1 || b) (again a))
+          (ap (λ (n : ℕ). leb 1 (n + own)) (sym n) ∙ either bit own (omega (arith, n, d (v .slot) ((s + k) % ii))) ∙ ap (λ (b : Bool). eqb bit 1 || b) (again a))
       pick (no a) = rw (lt-leb (v .offset) k (omega arith))
 
   -- so both find the same first place
-  pub taken-same : counts.firstTaken single (λ a r. countOf a r cells) ii p s ≡ firstTaken ii rows s (p .uses)
-  unfolding firstTaken counts.firstTaken
-  taken-same = grid-same _ (p .uses) noUse 16 (takenAt ii rows s) (λ k j l m. taken-bit k j m)
+  pub taken-same : counts.firstTaken single (λ a r. countOf a r cells) ii p s ≡ firstMet base ii rows s (p .uses)
+  unfolding firstMet counts.firstTaken
+  taken-same = grid-same _ (p .uses) noUse 16 (metAt base ii rows s) (λ k j l m. taken-bit k j m)

@@ -16,32 +16,32 @@ use Rattle.model.proofs.Conflicts.{hit-cell, once-self}
 use Rattle.model.proofs.Table.{digit-count}
 use Rattle.reservation.specs.Rows.{UsesIn}
 
-module _ (ii s : ℕ) (p : Op) (ok : OpOk p) (pos : 1 ≤ ii) (near : s ≤ 4096) where
-  -- where each cell of the footprint has the bit d, the uses lie in the table
+module _ {base : ℕ} (ii s : ℕ) (p : Op) (ok : OpOk p) (pos : 1 ≤ ii) (near : s ≤ 4096) where
+  -- where each cell of the footprint has the digit d, the uses lie in the table
   uses-in : (d : ℕ) (rows : List ℕ) → ii ≤ length rows → selfConflict ii p ≡ false
-      → ((t r : ℕ) → 1 ≤ t → t ≤ 24 → r < ii → 1 ≤ countOf t r (footprint ii p s) → digitOf 2 (getD rows r 0) t ≡ d) → UsesIn d rows ii s (p .uses)
+      → ((t r : ℕ) → 1 ≤ t → t ≤ 24 → r < ii → 1 ≤ countOf t r (footprint ii p s) → digitOf base (getD rows r 0) t ≡ d) → UsesIn base d rows ii s (p .uses)
   unfolding selfConflict
-  uses-in d rows long self bit = record {
+  uses-in d rows long self digit = record {
     some = pos;
     long = long;
     near = near;
     short = λ j l. ltb-false ii (useAt p j .duration) (any-at (λ u. ltb ii (u .duration)) (p .uses) j noUse self l);
-    bits = λ j k l m.
+    digits = λ j k l m.
         let u = useAt p j in
         let r : ℕ = (s + u .offset + k) % ii in
         let h = hit-cell ii p s ok (u .slot) r j k (record { inside = l; slot = refl; going = m; row = refl }) in
-        bit (u .slot) r (ok .each j l .slot-low) (ok .each j l .slot-high) (mod-lt (s + u .offset + k) pos) h;
+        digit (u .slot) r (ok .each j l .slot-low) (ok .each j l .slot-high) (mod-lt (s + u .offset + k) pos) h;
   }
 
   -- an operation that covers no cell of the table, and none twice, can be reserved
-  pub uses-free : (cells : List Cell) (rows : List ℕ) → IsTable 2 ii cells rows → Digits 2 cells → selfConflict ii p ≡ false
-      → ((t r : ℕ) → 1 ≤ countOf t r (footprint ii p s) → countOf t r cells ≡ 0) → UsesIn 0 rows ii s (p .uses)
-  uses-free cells rows h g self free = uses-in 0 rows (h .long) self (λ t r lo hi l m. digit-count 2 ii t r cells rows h g l lo hi ∙ free t r m)
+  pub uses-free : (cells : List Cell) (rows : List ℕ) → IsTable base ii cells rows → Digits base cells → selfConflict ii p ≡ false
+      → ((t r : ℕ) → 1 ≤ countOf t r (footprint ii p s) → countOf t r cells ≡ 0) → UsesIn base 0 rows ii s (p .uses)
+  uses-free cells rows h g self free = uses-in 0 rows (h .long) self (λ t r lo hi l m. digit-count base ii t r cells rows h g l lo hi ∙ free t r m)
 
-  -- an operation whose cells are in the table can be released
-  pub uses-taken : (cells : List Cell) (rows : List ℕ) → IsTable 2 ii (footprint ii p s ++ cells) rows → Digits 2 (footprint ii p s ++ cells) → UsesIn 1 rows ii s (p .uses)
-  uses-taken cells rows h g =
+  -- an operation whose cells are in the table, none of them twice, can be released
+  pub uses-taken : 2 ≤ base → (cells : List Cell) (rows : List ℕ) → IsTable base ii (footprint ii p s ++ cells) rows → Digits 2 (footprint ii p s ++ cells) → UsesIn base 1 rows ii s (p .uses)
+  uses-taken wide cells rows h g =
       let sum : (t r : ℕ) → countOf t r (footprint ii p s ++ cells) ≡ countOf t r (footprint ii p s) + countOf t r cells =
       λ t r. count-append (sameCell (record { slot = t; row = r })) (footprint ii p s) cells in
       uses-in 1 rows (h .long) (once-self ii p s ok pos (λ t r. omega (arith, g t r, sum t r)))
-      (λ t r lo hi l m. digit-count 2 ii t r (footprint ii p s ++ cells) rows h g l lo hi ∙ omega (arith, g t r, sum t r))
+      (λ t r lo hi l m. digit-count base ii t r (footprint ii p s ++ cells) rows h (λ a b. omega (arith, g a b)) l lo hi ∙ omega (arith, g t r, sum t r))

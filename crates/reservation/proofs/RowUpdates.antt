@@ -11,7 +11,7 @@ use Rattle.model.specs.Loop.{Use, Op, useAt, OpOk}
 use Rattle.model.specs.Table.{digitOf}
 use Rattle.model.proofs.Modular.{wrap-ne}
 use Rattle.model.proofs.Conflicts.{slots-rise}
-use Rattle.reservation.specs.Rows.{changed, overUse, overUses, BitIs, UseIn, UsesIn}
+use Rattle.reservation.specs.Rows.{changed, overUse, overUses, DigitIs, UseIn, UsesIn}
 
 -- ---- one use
 
@@ -38,19 +38,19 @@ over-fresh g ii start m (suc k) rows h l =
     (λ e. wrap-ne ii (start + k) (m - k) (omega arith) (omega arith) (ap (λ (x : ℕ). x % ii) (omega arith) ∙ e))
     ∙ over-fresh g ii start m k rows (omega arith) l
 
-module _ (g : ℕ → ℕ) (d : ℕ) (rows : List ℕ) (ii start n t : ℕ) (u : UseIn d rows ii start n t) where
-  -- so where its turn comes the bit is still d, and the row lies in the table
-  pub over-turn : (k : ℕ) → k < n → BitIs d (overUse g ii start k rows) ((start + k) % ii) t
+module _ {base : ℕ} (g : ℕ → ℕ) (d : ℕ) (rows : List ℕ) (ii start n t : ℕ) (u : UseIn base d rows ii start n t) where
+  -- so where its turn comes the digit is still d, and the row lies in the table
+  pub over-turn : (k : ℕ) → k < n → DigitIs base d (overUse g ii start k rows) ((start + k) % ii) t
   over-turn k l = record {
     inside = rw length-over (omega (arith, mod-lt (start + k) (u .some), u .long));
     low = u .low;
     high = u .high;
-    bit = rw (over-fresh g ii start k k rows (le-refl k) (omega (arith, u .short))) (u .bits k l);
+    digit = rw (over-fresh g ii start k k rows (le-refl k) (omega (arith, u .short))) (u .digits k l);
   }
 
-  -- and a bit that g leaves where that bit is d stays as it was in every row
-  pub over-other : (s : ℕ) → ((x : ℕ) → digitOf 2 x t ≡ d → digitOf 2 (g x) s ≡ digitOf 2 x s) → (k : ℕ) → k ≤ n → (r : ℕ)
-      → digitOf 2 (getD (overUse g ii start k rows) r 0) s ≡ digitOf 2 (getD rows r 0) s
+  -- and a digit that g leaves where that one is d stays as it was in every row
+  pub over-other : (s : ℕ) → ((x : ℕ) → digitOf base x t ≡ d → digitOf base (g x) s ≡ digitOf base x s) → (k : ℕ) → k ≤ n → (r : ℕ)
+      → digitOf base (getD (overUse g ii start k rows) r 0) s ≡ digitOf base (getD rows r 0) s
   unfolding overUse
   over-other s leaves zero l r = refl
   over-other s leaves (suc k) l r = pick (ℕ-discrete r ((start + k) % ii)) (over-other s leaves k (omega arith) r)
@@ -58,11 +58,11 @@ module _ (g : ℕ → ℕ) (d : ℕ) (rows : List ℕ) (ii start n t : ℕ) (u :
       before : List ℕ
       before = overUse g ii start k rows
 
-      pick : Dec (r ≡ (start + k) % ii) → digitOf 2 (getD before r 0) s ≡ digitOf 2 (getD rows r 0) s
-          → digitOf 2 (getD (changed g ((start + k) % ii) before) r 0) s ≡ digitOf 2 (getD rows r 0) s
+      pick : Dec (r ≡ (start + k) % ii) → digitOf base (getD before r 0) s ≡ digitOf base (getD rows r 0) s
+          → digitOf base (getD (changed g ((start + k) % ii) before) r 0) s ≡ digitOf base (getD rows r 0) s
       pick (yes e) ih =
           let b = over-turn k l in
-          rw (← e, getD-set-same before r (g (getD before r 0)) 0 (rw e (b .inside))) (leaves (getD before r 0) (rw e (b .bit)) ∙ ih)
+          rw (← e, getD-set-same before r (g (getD before r 0)) 0 (rw e (b .inside))) (leaves (getD before r 0) (rw e (b .digit)) ∙ ih)
       pick (no ne) ih = rw (getD-set-other before ((start + k) % ii) r (g (getD before ((start + k) % ii) 0)) 0 ne) ih
 
 -- ---- the uses of an operation
@@ -80,14 +80,14 @@ uses-rest g ii s us zero rows p = refl
 uses-rest g ii s us (suc n) rows p =
     over-rest _ ii _ _ (overUses g ii s us n rows) p ∙ uses-rest g ii s us n rows p
 
--- g leaves the bits of other slots where the bit of its slot is d
-abbrev pub Leaves : ℕ → (ℕ → ℕ → ℕ) → Type 0
-Leaves d g = (s t x : ℕ) → 1 ≤ s → 1 ≤ t → (s ≡ t → ⊥) → digitOf 2 x t ≡ d → digitOf 2 (g t x) s ≡ digitOf 2 x s
+-- g leaves the digits of other slots where that of its slot is d
+abbrev pub Leaves : (base d : ℕ) → (ℕ → ℕ → ℕ) → Type 0
+Leaves base d g = (s t x : ℕ) → 1 ≤ s → 1 ≤ t → (s ≡ t → ⊥) → digitOf base x t ≡ d → digitOf base (g t x) s ≡ digitOf base x s
 
 -- so after the first j uses each later one lies in the table still: the slots differ
-pub uses-turn : (g : ℕ → ℕ → ℕ) (d : ℕ) (rows : List ℕ) (ii s : ℕ) (p : Op) → Leaves d g → OpOk p → UsesIn d rows ii s (p .uses)
+pub uses-turn : {base : ℕ} (g : ℕ → ℕ → ℕ) (d : ℕ) (rows : List ℕ) (ii s : ℕ) (p : Op) → Leaves base d g → OpOk p → UsesIn base d rows ii s (p .uses)
     → (j i : ℕ) → j ≤ i → i < length (p .uses)
-    → UseIn d (overUses g ii s (p .uses) j rows) ii (s + useAt p i .offset) (useAt p i .duration) (useAt p i .slot)
+    → UseIn base d (overUses g ii s (p .uses) j rows) ii (s + useAt p i .offset) (useAt p i .duration) (useAt p i .slot)
 unfolding overUses
 uses-turn g d rows ii s p leaves ok u zero i l m =
     let o = ok .each i m in
@@ -98,7 +98,7 @@ uses-turn g d rows ii s p leaves ok u zero i l m =
       near = omega (arith, u .near);
       low = o .slot-low;
       high = o .slot-high;
-      bits = λ k q. u .bits i k m q;
+      digits = λ k q. u .digits i k m q;
     }
 uses-turn g d rows ii s p leaves ok u (suc j) i l m =
     let a = uses-turn g d rows ii s p leaves ok u j j (le-refl j) (omega arith) in
@@ -110,9 +110,9 @@ uses-turn g d rows ii s p leaves ok u (suc j) i l m =
       near = b .near;
       low = b .low;
       high = b .high;
-      bits = λ k q.
+      digits = λ k q.
           over-other (g (useAt p j .slot)) d (overUses g ii s (p .uses) j rows) ii (s + useAt p j .offset) (useAt p j .duration) (useAt p j .slot) a (useAt p i .slot)
           (λ x e. leaves (useAt p i .slot) (useAt p j .slot) x (b .low) (a .low) (λ h. omega (arith, slots-rise p ok j i l m)) e)
           (useAt p j .duration) (le-refl (useAt p j .duration)) _
-          ∙ b .bits k q;
+          ∙ b .digits k q;
     }

@@ -16,7 +16,7 @@ use Rattle.model.proofs.Lists.{count-append, count-next}
 use Rattle.model.proofs.Sums.{sum-next}
 use Rattle.model.proofs.Cells.{useCount, footprint-count}
 use Rattle.model.proofs.Table.{count-middle, table-same, table-add, table-drop}
-use Rattle.reservation.specs.Rows.{overUse, overUses, withBit, lessBit}
+use Rattle.reservation.specs.Rows.{overUse, overUses, withOne, lessOne}
 
 -- ---- the cells of one use
 
@@ -25,25 +25,25 @@ unfoldable pub useCells : ℕ → ℕ → ℕ → ℕ → List Cell
 useCells ii t start zero = []
 useCells ii t start (suc k) = record { slot = t; row = (start + k) % ii } ∷ useCells ii t start k
 
--- setting the bits of a use adds its cells to the table
-pub use-table : (ii t start k : ℕ) (cells : List Cell) (rows : List ℕ) → 1 ≤ ii → 1 ≤ t → t ≤ 24
-    → IsTable 2 ii cells rows → IsTable 2 ii (useCells ii t start k ++ cells) (overUse (withBit t) ii start k rows)
+-- one more in the digits of a use adds its cells to the table
+pub use-table : {base : ℕ} (ii t start k : ℕ) (cells : List Cell) (rows : List ℕ) → 1 ≤ ii → 1 ≤ t → t ≤ 24
+    → IsTable base ii cells rows → IsTable base ii (useCells ii t start k ++ cells) (overUse (withOne base t) ii start k rows)
 unfolding useCells overUse
-use-table ii t start zero cells rows p lo hi h = h
-use-table ii t start (suc k) cells rows p lo hi h =
-    table-add 2 ii t ((start + k) % ii) (useCells ii t start k ++ cells) (overUse (withBit t) ii start k rows) (mod-lt (start + k) p) lo hi
+use-table {base} ii t start zero cells rows p lo hi h = h
+use-table {base} ii t start (suc k) cells rows p lo hi h =
+    table-add base ii t ((start + k) % ii) (useCells ii t start k ++ cells) (overUse (withOne base t) ii start k rows) (mod-lt (start + k) p) lo hi
     (use-table ii t start k cells rows p lo hi h)
 
--- and clearing them takes its cells off
-pub unuse-table : (ii t start k : ℕ) (cells : List Cell) (rows : List ℕ) → 1 ≤ ii → 1 ≤ t → t ≤ 24
-    → IsTable 2 ii (useCells ii t start k ++ cells) rows → IsTable 2 ii cells (overUse (lessBit t) ii start k rows)
+-- and one less takes its cells off
+pub unuse-table : {base : ℕ} (ii t start k : ℕ) (cells : List Cell) (rows : List ℕ) → 1 ≤ ii → 1 ≤ t → t ≤ 24
+    → IsTable base ii (useCells ii t start k ++ cells) rows → IsTable base ii cells (overUse (lessOne base t) ii start k rows)
 unfolding useCells overUse
-unuse-table ii t start zero cells rows p lo hi h = h
-unuse-table ii t start (suc k) cells rows p lo hi h =
+unuse-table {base} ii t start zero cells rows p lo hi h = h
+unuse-table {base} ii t start (suc k) cells rows p lo hi h =
     let c : Cell = record { slot = t; row = (start + k) % ii } in
-    table-drop 2 ii t ((start + k) % ii) cells (overUse (lessBit t) ii start k rows) (mod-lt (start + k) p) lo hi
+    table-drop base ii t ((start + k) % ii) cells (overUse (lessOne base t) ii start k rows) (mod-lt (start + k) p) lo hi
     (unuse-table ii t start k (c ∷ cells) rows p lo hi
-    (table-same 2 ii (c ∷ (useCells ii t start k ++ cells)) (useCells ii t start k ++ (c ∷ cells)) rows (λ s r. count-middle s r c (useCells ii t start k) cells) h))
+    (table-same base ii (c ∷ (useCells ii t start k ++ cells)) (useCells ii t start k ++ (c ∷ cells)) rows (λ s r. count-middle s r c (useCells ii t start k) cells) h))
 
 -- ---- the cells of an operation's uses, one use after the other
 
@@ -73,21 +73,21 @@ uses-count ii s us t r (suc n) =
 
 -- ---- the laws
 
-module _ (ii s : ℕ) (p : Op) (ok : OpOk p) (pos : 1 ≤ ii) where
+module _ {base : ℕ} (ii s : ℕ) (p : Op) (ok : OpOk p) (pos : 1 ≤ ii) where
   -- the first n uses
-  uses-table : (n : ℕ) → n ≤ length (p .uses) → (cells : List Cell) (rows : List ℕ) → IsTable 2 ii cells rows
-      → IsTable 2 ii (usesCells ii s (p .uses) n ++ cells) (overUses withBit ii s (p .uses) n rows)
+  uses-table : (n : ℕ) → n ≤ length (p .uses) → (cells : List Cell) (rows : List ℕ) → IsTable base ii cells rows
+      → IsTable base ii (usesCells ii s (p .uses) n ++ cells) (overUses (withOne base) ii s (p .uses) n rows)
   unfolding usesCells overUses
   uses-table zero l cells rows h = h
   uses-table (suc n) l cells rows h =
       let u : Use = useAt p n in
       let o = ok .each n l in
       rw append-assoc
-      (use-table ii (u .slot) (s + u .offset) (u .duration) (usesCells ii s (p .uses) n ++ cells) (overUses withBit ii s (p .uses) n rows) pos (o .slot-low) (o .slot-high)
+      (use-table ii (u .slot) (s + u .offset) (u .duration) (usesCells ii s (p .uses) n ++ cells) (overUses (withOne base) ii s (p .uses) n rows) pos (o .slot-low) (o .slot-high)
       (uses-table n (omega arith) cells rows h))
 
-  unuses-table : (n : ℕ) → n ≤ length (p .uses) → (cells : List Cell) (rows : List ℕ) → IsTable 2 ii (usesCells ii s (p .uses) n ++ cells) rows
-      → IsTable 2 ii cells (overUses lessBit ii s (p .uses) n rows)
+  unuses-table : (n : ℕ) → n ≤ length (p .uses) → (cells : List Cell) (rows : List ℕ) → IsTable base ii (usesCells ii s (p .uses) n ++ cells) rows
+      → IsTable base ii cells (overUses (lessOne base) ii s (p .uses) n rows)
   unfolding usesCells overUses
   unuses-table zero l cells rows h = h
   unuses-table (suc n) l cells rows h =
@@ -95,22 +95,22 @@ module _ (ii s : ℕ) (p : Op) (ok : OpOk p) (pos : 1 ≤ ii) where
       let o = ok .each n l in
       let a = cellsOfUse ii s u in
       let b = usesCells ii s (p .uses) n in
-      unuse-table ii (u .slot) (s + u .offset) (u .duration) cells (overUses lessBit ii s (p .uses) n rows) pos (o .slot-low) (o .slot-high)
+      unuse-table ii (u .slot) (s + u .offset) (u .duration) cells (overUses (lessOne base) ii s (p .uses) n rows) pos (o .slot-low) (o .slot-high)
       (unuses-table n (omega arith) (a ++ cells) rows
-      (table-same 2 ii ((a ++ b) ++ cells) (b ++ (a ++ cells)) rows (λ t r. simp count-append (omega arith)) h))
+      (table-same base ii ((a ++ b) ++ cells) (b ++ (a ++ cells)) rows (λ t r. simp count-append (omega arith)) h))
 
   -- reserving an operation adds its footprint to the table
-  pub reserve-table : (cells : List Cell) (rows : List ℕ) → IsTable 2 ii cells rows
-      → IsTable 2 ii (footprint ii p s ++ cells) (overUses withBit ii s (p .uses) (length (p .uses)) rows)
+  pub reserve-table : (cells : List Cell) (rows : List ℕ) → IsTable base ii cells rows
+      → IsTable base ii (footprint ii p s ++ cells) (overUses (withOne base) ii s (p .uses) (length (p .uses)) rows)
   reserve-table cells rows h =
       let n : ℕ = length (p .uses) in
-      table-same 2 ii (usesCells ii s (p .uses) n ++ cells) (footprint ii p s ++ cells) (overUses withBit ii s (p .uses) n rows)
+      table-same base ii (usesCells ii s (p .uses) n ++ cells) (footprint ii p s ++ cells) (overUses (withOne base) ii s (p .uses) n rows)
       (λ t r. simp count-append (omega (arith, footprint-count ii s p ok t r, uses-count ii s (p .uses) t r n))) (uses-table n (le-refl n) cells rows h)
 
   -- and releasing it takes its footprint off
-  pub release-table : (cells : List Cell) (rows : List ℕ) → IsTable 2 ii (footprint ii p s ++ cells) rows
-      → IsTable 2 ii cells (overUses lessBit ii s (p .uses) (length (p .uses)) rows)
+  pub release-table : (cells : List Cell) (rows : List ℕ) → IsTable base ii (footprint ii p s ++ cells) rows
+      → IsTable base ii cells (overUses (lessOne base) ii s (p .uses) (length (p .uses)) rows)
   release-table cells rows h =
       let n : ℕ = length (p .uses) in
       unuses-table n (le-refl n) cells rows
-      (table-same 2 ii (footprint ii p s ++ cells) (usesCells ii s (p .uses) n ++ cells) rows (λ t r. simp count-append (omega (arith, footprint-count ii s p ok t r, uses-count ii s (p .uses) t r n))) h)
+      (table-same base ii (footprint ii p s ++ cells) (usesCells ii s (p .uses) n ++ cells) rows (λ t r. simp count-append (omega (arith, footprint-count ii s p ok t r, uses-count ii s (p .uses) t r n))) h)

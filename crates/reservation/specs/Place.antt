@@ -14,13 +14,13 @@ use Rattle.reservation.specs.declared.Place.the-variants.{Free, Taken}
 use Rattle.reservation.specs.declared.test.Cycle.{Cycle}
 use Rattle.reservation.specs.declared.test.Cycle.the-variants as cycle
 
--- use u meets in cycle k, which falls into the row given, a cell that is taken: its bit is set, or the use itself covered it ii cycles before
-abbrev pub takenBy : ℕ → ℕ → ℕ → Use → Bool
-takenBy ii row k u = covers k u && (eqb (digitOf 2 row (u .slot)) 1 || leb (u .offset + ii) k)
+-- use u meets in cycle k, which falls into the row given, a cell that is taken: its digit is 1, or the use itself covered it ii cycles before
+abbrev pub metBy : (base ii row k : ℕ) → Use → Bool
+metBy base ii row k u = covers k u && (eqb (digitOf base row (u .slot)) 1 || leb (u .offset + ii) k)
 
 -- the first use that does so
-unfoldable pub takenIn : ℕ → ℕ → ℕ → List Use → Option Use
-takenIn ii row k us = first (takenBy ii row k) us
+unfoldable pub metIn : (base ii row k : ℕ) → List Use → Option Use
+metIn base ii row k us = first (metBy base ii row k) us
 
 -- how many cycles the uses cover: their latest end, 0 where there is none
 abbrev pub cyclesOf : List Use → ℕ
@@ -36,19 +36,19 @@ abbrev pub rowAt : ℕ → List ℕ → ℕ → ℕ → ℕ
 rowAt ii rows s k = getD rows ((s + k) % ii) 0
 
 -- use u of an operation started at s does so in cycle k
-abbrev pub takenAt : ℕ → List ℕ → ℕ → ℕ → Use → Bool
-takenAt ii rows s k u = takenBy ii (rowAt ii rows s k) k u
+abbrev pub metAt : (base ii : ℕ) → List ℕ → (s k : ℕ) → Use → Bool
+metAt base ii rows s k u = metBy base ii (rowAt ii rows s k) k u
 
 -- the first cycle, of 16, in which some use does, and the first such use
-unfoldable pub firstTaken : ℕ → List ℕ → ℕ → List Use → Option (ℕ × Use)
-firstTaken ii rows s us = first (λ p. takenAt ii rows s (p .0) (p .1)) (flatMap (λ k. map (λ u. (k, u)) us) (upFrom 0 16))
+unfoldable pub firstMet : (base ii : ℕ) → List ℕ → ℕ → List Use → Option (ℕ × Use)
+firstMet base ii rows s us = first (λ p. metAt base ii rows s (p .0) (p .1)) (flatMap (λ k. map (λ u. (k, u)) us) (upFrom 0 16))
 
 -- what the conflict test says: the cycle, and the slot
 abbrev pub placeOf : Place → Option (ℕ × ℕ)
 placeOf Free = none
 placeOf (Taken k s) = some (k, s)
 
--- of the model's first taken place
+-- of the first taken place
 abbrev pub placeIs : Option (ℕ × Use) → Option (ℕ × ℕ)
 placeIs none = none
 placeIs (some p) = some (p .0, p .1 .slot)

@@ -21,36 +21,36 @@ overUses g ii s us zero rows = rows
 overUses g ii s us (suc n) rows =
     overUse (g (getD us n noUse .slot)) ii (s + getD us n noUse .offset) (getD us n noUse .duration) (overUses g ii s us n rows)
 
--- the bit of a slot set where it was clear, and cleared where it was set
-abbrev pub withBit : ℕ → ℕ → ℕ
-withBit slot x = x + 2 ^ (slot - 1)
+-- one more in the digit of a slot; in base 2 the slot's bit set, where it was clear
+abbrev pub withOne : (base slot x : ℕ) → ℕ
+withOne base slot x = x + base ^ (slot - 1)
 
--- and taken off
-abbrev pub lessBit : ℕ → ℕ → ℕ
-lessBit slot x = x - 2 ^ (slot - 1)
+-- one less; in base 2 the slot's bit cleared, where it was set
+abbrev pub lessOne : (base slot x : ℕ) → ℕ
+lessOne base slot x = x - base ^ (slot - 1)
 
--- what the leaves ask: the cell lies in the rows, and its bit is d
-pub record BitIs (d : ℕ) (rows : List ℕ) (r s : ℕ) : Type 0 where
+-- what the leaves ask: the cell lies in the rows, and its digit is d
+pub record DigitIs (base d : ℕ) (rows : List ℕ) (r s : ℕ) : Type 0 where
   pub inside : r < length rows
   pub low : 1 ≤ s
   pub high : s ≤ 24
-  pub bit : digitOf 2 (getD rows r 0) s ≡ d
+  pub digit : digitOf base (getD rows r 0) s ≡ d
 
--- a use lies in the table: it is no longer than the interval, and each row that it covers has the bit d at its slot
-pub record UseIn (d : ℕ) (rows : List ℕ) (ii start n s : ℕ) : Type 0 where
+-- a use lies in the table: it is no longer than the interval, and each row that it covers has the digit d at its slot
+pub record UseIn (base d : ℕ) (rows : List ℕ) (ii start n s : ℕ) : Type 0 where
   pub some : 1 ≤ ii
   pub long : ii ≤ length rows
   pub short : n ≤ ii
   pub near : start + n ≤ 8192
   pub low : 1 ≤ s
   pub high : s ≤ 24
-  pub bits : (k : ℕ) → k < n → digitOf 2 (getD rows ((start + k) % ii) 0) s ≡ d
+  pub digits : (k : ℕ) → k < n → digitOf base (getD rows ((start + k) % ii) 0) s ≡ d
 
--- the uses of an operation started at s lie in the table, and each cell that they cover has the bit d
-pub record UsesIn (d : ℕ) (rows : List ℕ) (ii s : ℕ) (us : List Use) : Type 0 where
+-- the uses of an operation started at s lie in the table, and each cell that they cover has the digit d
+pub record UsesIn (base d : ℕ) (rows : List ℕ) (ii s : ℕ) (us : List Use) : Type 0 where
   pub some : 1 ≤ ii
   pub long : ii ≤ length rows
   pub near : s ≤ 4096
   pub short : (j : ℕ) → j < length us → getD us j noUse .duration ≤ ii
-  pub bits : (j k : ℕ) → j < length us → k < getD us j noUse .duration
-      → digitOf 2 (getD rows ((s + getD us j noUse .offset + k) % ii) 0) (getD us j noUse .slot) ≡ d
+  pub digits : (j k : ℕ) → j < length us → k < getD us j noUse .duration
+      → digitOf base (getD rows ((s + getD us j noUse .offset + k) % ii) 0) (getD us j noUse .slot) ≡ d

@@ -9,28 +9,29 @@ ghost use Prim.Native.Nat.{_<_};
 ghost use lib.ListN.{length};
 ghost use Rattle.model.specs.Loop.{size, opAt, firstUseOf};
 ghost use Rattle.model.specs.File.{loopOf, Accepted};
-ghost use Rattle.reservation.specs.Rows.{changed, overUse, overUses, withBit, lessBit, BitIs, UseIn, UsesIn};
+ghost use Rattle.model.specs.Table.{rowBase};
+ghost use Rattle.reservation.specs.Rows.{changed, overUse, overUses, withOne, lessOne, DigitIs, UseIn, UsesIn};
 
 // Sets the bit of a slot in a row in which it is clear.
 fn set_bit(rows: &mut [u64], row: usize, slot: usize)
-    requires { ⌜ BitIs 0 (now rows) row slot ⌝ }
-    ensures { λ _. ⌜ now (rows .exit) ≡ changed (withBit slot) row (now (rows .entry)) ⌝ }
+    requires { ⌜ DigitIs rowBase 0 (now rows) row slot ⌝ }
+    ensures { λ _. ⌜ now (rows .exit) ≡ changed (withOne rowBase slot) row (now (rows .entry)) ⌝ }
 {
     rows[row] = rows[row] | (1 << (slot - 1));
 }
 
 // Clears the bit of a slot in a row in which it is set.
 fn clear_bit(rows: &mut [u64], row: usize, slot: usize)
-    requires { ⌜ BitIs 1 (now rows) row slot ⌝ }
-    ensures { λ _. ⌜ now (rows .exit) ≡ changed (lessBit slot) row (now (rows .entry)) ⌝ }
+    requires { ⌜ DigitIs rowBase 1 (now rows) row slot ⌝ }
+    ensures { λ _. ⌜ now (rows .exit) ≡ changed (lessOne rowBase slot) row (now (rows .entry)) ⌝ }
 {
     rows[row] = rows[row] & !(1 << (slot - 1));
 }
 
 // Sets the bits of one use of n cycles from `start` on.
 fn reserve_use(rows: &mut [u64], interval: usize, start: usize, n: usize, slot: usize)
-    requires { ⌜ UseIn 0 (now rows) interval start n slot ⌝ }
-    ensures { λ _. ⌜ now (rows .exit) ≡ overUse (withBit slot) interval start n (now (rows .entry)) ⌝ }
+    requires { ⌜ UseIn rowBase 0 (now rows) interval start n slot ⌝ }
+    ensures { λ _. ⌜ now (rows .exit) ≡ overUse (withOne rowBase slot) interval start n (now (rows .entry)) ⌝ }
 {
     let mut k = 0;
     while k < n {
@@ -41,8 +42,8 @@ fn reserve_use(rows: &mut [u64], interval: usize, start: usize, n: usize, slot: 
 
 // Clears the bits of one use of n cycles from `start` on.
 fn release_use(rows: &mut [u64], interval: usize, start: usize, n: usize, slot: usize)
-    requires { ⌜ UseIn 1 (now rows) interval start n slot ⌝ }
-    ensures { λ _. ⌜ now (rows .exit) ≡ overUse (lessBit slot) interval start n (now (rows .entry)) ⌝ }
+    requires { ⌜ UseIn rowBase 1 (now rows) interval start n slot ⌝ }
+    ensures { λ _. ⌜ now (rows .exit) ≡ overUse (lessOne rowBase slot) interval start n (now (rows .entry)) ⌝ }
 {
     let mut k = 0;
     while k < n {
@@ -60,8 +61,8 @@ pub fn reserve(
     interval: usize,
     rows: &mut [u64],
 )
-    requires { ⌜ Accepted (now file) × (op < size (loopOf (now file))) × UsesIn 0 (now rows) interval start (opAt (loopOf (now file)) op .uses) × (first ≡ firstUseOf (loopOf (now file)) op) ⌝ }
-    ensures { λ _. ⌜ now (rows .exit) ≡ overUses withBit interval start (opAt (loopOf (now (file .entry))) op .uses) (length (opAt (loopOf (now (file .entry))) op .uses)) (now (rows .entry)) ⌝ }
+    requires { ⌜ Accepted (now file) × (op < size (loopOf (now file))) × UsesIn rowBase 0 (now rows) interval start (opAt (loopOf (now file)) op .uses) × (first ≡ firstUseOf (loopOf (now file)) op) ⌝ }
+    ensures { λ _. ⌜ now (rows .exit) ≡ overUses (withOne rowBase) interval start (opAt (loopOf (now (file .entry))) op .uses) (length (opAt (loopOf (now (file .entry))) op .uses)) (now (rows .entry)) ⌝ }
 {
     let n = use_count(file, op);
     let mut j = 0;
@@ -87,8 +88,8 @@ pub fn release(
     interval: usize,
     rows: &mut [u64],
 )
-    requires { ⌜ Accepted (now file) × (op < size (loopOf (now file))) × UsesIn 1 (now rows) interval start (opAt (loopOf (now file)) op .uses) × (first ≡ firstUseOf (loopOf (now file)) op) ⌝ }
-    ensures { λ _. ⌜ now (rows .exit) ≡ overUses lessBit interval start (opAt (loopOf (now (file .entry))) op .uses) (length (opAt (loopOf (now (file .entry))) op .uses)) (now (rows .entry)) ⌝ }
+    requires { ⌜ Accepted (now file) × (op < size (loopOf (now file))) × UsesIn rowBase 1 (now rows) interval start (opAt (loopOf (now file)) op .uses) × (first ≡ firstUseOf (loopOf (now file)) op) ⌝ }
+    ensures { λ _. ⌜ now (rows .exit) ≡ overUses (lessOne rowBase) interval start (opAt (loopOf (now (file .entry))) op .uses) (length (opAt (loopOf (now (file .entry))) op .uses)) (now (rows .entry)) ⌝ }
 {
     let n = use_count(file, op);
     let mut j = 0;

@@ -10,12 +10,13 @@ ghost use Prim.Native.Nat.{_+_, _<_, _≤_};
 ghost use lib.ListN.{length, getD};
 ghost use Rattle.model.specs.Loop.{noUse, size, opAt, allUses, firstUseOf};
 ghost use Rattle.model.specs.File.{loopOf, Accepted};
-ghost use Rattle.reservation.specs.Place.{takenBy, takenIn, cyclesOf, cycleIs, firstTaken, placeOf, placeIs};
+ghost use Rattle.model.specs.Table.{rowBase};
+ghost use Rattle.reservation.specs.Place.{metBy, metIn, cyclesOf, cycleIs, firstMet, placeOf, placeIs};
 
 // Whether use u of all meets a taken cell in cycle k of its operation, which falls into the row given.
 fn taken(file: &[u8], u: usize, k: usize, interval: usize, row: u64) -> bool
     requires { ⌜ Accepted (now file) × (u < length (allUses (loopOf (now file)))) × (k < 16) × (interval ≤ 4096) ⌝ }
-    ensures { λ r. ⌜ r ≡ takenBy interval row k (getD (allUses (loopOf (now (file .entry)))) u noUse) ⌝ }
+    ensures { λ r. ⌜ r ≡ metBy rowBase interval row k (getD (allUses (loopOf (now (file .entry)))) u noUse) ⌝ }
 {
     let from = offset(file, u);
     if k < from {
@@ -39,7 +40,7 @@ enum Cycle {
 // The test of cycle k, which falls into the row given. How many cycles the operation covers, which is the latest end of its uses, is found on the way.
 fn taken_in(file: &[u8], op: usize, first: usize, k: usize, interval: usize, row: u64) -> Cycle
     requires { ⌜ Accepted (now file) × (op < size (loopOf (now file))) × (k < 16) × (interval ≤ 4096) × (first ≡ firstUseOf (loopOf (now file)) op) ⌝ }
-    ensures { λ r. ⌜ r ≡ cycleIs (takenIn interval row k (opAt (loopOf (now (file .entry))) op .uses)) (cyclesOf (opAt (loopOf (now (file .entry))) op .uses)) ⌝ }
+    ensures { λ r. ⌜ r ≡ cycleIs (metIn rowBase interval row k (opAt (loopOf (now (file .entry))) op .uses)) (cyclesOf (opAt (loopOf (now (file .entry))) op .uses)) ⌝ }
 {
     let n = use_count(file, op);
     let mut most = 0;
@@ -69,7 +70,7 @@ pub fn conflict(
     rows: &[u64],
 ) -> Place
     requires { ⌜ Accepted (now file) × (op < size (loopOf (now file))) × (start ≤ 4096) × (1 ≤ interval) × (interval ≤ 4096) × (interval ≤ length (now rows)) × (first ≡ firstUseOf (loopOf (now file)) op) ⌝ }
-    ensures { λ r. ⌜ placeOf r ≡ placeIs (firstTaken interval (now (rows .entry)) start (opAt (loopOf (now (file .entry))) op .uses)) ⌝ }
+    ensures { λ r. ⌜ placeOf r ≡ placeIs (firstMet rowBase interval (now (rows .entry)) start (opAt (loopOf (now (file .entry))) op .uses)) ⌝ }
 {
     let mut most = 1;
     let mut k = 0;

@@ -11,7 +11,7 @@ use Rattle.model.specs.Refusals.{Refusal, firstRefusal, Answer, answered, settl
 use Rattle.model.specs.Loop.{size, LoopOk}
 use Rattle.model.specs.File.{loopOf}
 use Rattle.model.specs.Legality.{Placing, legalAt}
-use Rattle.model.specs.Table.{coveredAt, digitOf}
+use Rattle.model.specs.Table.{rowBase, coveredAt, digitOf}
 use Rattle.model.specs.Session.{Setup, State, Call, checkpoint, rollback, done, numbered, placedIn, stateTable, openChecks, openFile, openRows, start, step, after, replies}
 use Rattle.model.specs.Session as model
 use Rattle.model.specs.Undo.{NoneGives, markedBy, placings, OrderOf, AllDone}
@@ -136,7 +136,7 @@ valid-placed {s} v =
 -- what the bits of its rows say, with setup u
 abbrev BitsAre : Setup → Session → List ℕ → Type 0
 BitsAre u s rows =
-    ((slot row : ℕ) → row < u .ii → 1 ≤ slot → slot ≤ 24 → digitOf 2 (getD rows row 0) slot ≡ cond (coveredAt (u .loop) (u .ii) (placedIn (stateOf s .starts)) slot row) 1 0)
+    ((slot row : ℕ) → row < u .ii → 1 ≤ slot → slot ≤ 24 → digitOf rowBase (getD rows row 0) slot ≡ cond (coveredAt (u .loop) (u .ii) (placedIn (stateOf s .starts)) slot row) 1 0)
     × ((row : ℕ) → row < u .ii → getD rows row 0 < 2 ^ 24)
 
 valid-bits : {s : Session} {rows : List ℕ} → Valid s rows → BitsAre (setupOf s) s rows

@@ -6,7 +6,7 @@ use Prim.Native.Nat.{ℕ, _^_, _≤_, _<_}
 use lib.ListN.{getD, take, drop}
 use Rattle.model.specs.Refusals.{Answer, answered}
 use Rattle.model.specs.File.{loopOf}
-use Rattle.model.specs.Table.{coveredAt, digitOf}
+use Rattle.model.specs.Table.{rowBase, coveredAt, digitOf}
 use Rattle.model.specs.Session.{Call, checkpoint, rollback, done, numbered, placedIn, stateTable, start, after, replies}
 use Rattle.model.specs.Session as model
 use Rattle.model.specs.Undo.{NoneGives, markedBy, placings, OrderOf, AllDone}
@@ -33,7 +33,7 @@ pub record Exact (f : List ℕ) (ii h : ℕ) (rows₀ : List ℕ) (cs : List Cal
   pub table : rows ≡ stateTable (setupAs f ii h) (after (setupAs f ii h) cs (start (setupAs f ii h))) ++ drop ii rows₀
   -- in the first ii rows a bit is 1 exactly where a placed operation covers that slot and row, and no bit stands above those of the 24 slots
   pub bits : (slot row : ℕ) → row < ii → 1 ≤ slot → slot ≤ 24
-      → digitOf 2 (getD rows row 0) slot ≡ cond (coveredAt (loopOf f) ii (placedIn (stateOf s .starts)) slot row) 1 0
+      → digitOf rowBase (getD rows row 0) slot ≡ cond (coveredAt (loopOf f) ii (placedIn (stateOf s .starts)) slot row) 1 0
   pub bits-end : (row : ℕ) → row < ii → getD rows row 0 < 2 ^ 24
   -- the file, the interval and the horizon are those of the opening, and the session is one that calls take
   pub setup : setupOf s ≡ setupAs f ii h

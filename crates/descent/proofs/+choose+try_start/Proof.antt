@@ -12,7 +12,8 @@ use borrow.Fn.Kinds.{In}
 use borrow.Fn.PlainCycle.{Measures, is, falls, and}
 use Rattle.model.specs.Loop.{opAt}
 use Rattle.model.specs.File.{loopOf}
-use Rattle.reservation.specs.Place.{firstTaken}
+use Rattle.model.specs.Table.{rowBase}
+use Rattle.reservation.specs.Place.{firstMet}
 use Rattle.reservation.proofs.TakenCells.{free-place, taken-place}
 use Rattle.descent.proofs.Steps.{AtProbe, AfterProbe, same-turn, leaf, begins, ends, breaks, may-try, skips, turned, op-few, unfit, can-reserve, deeper, can-release, given-back, back}
 use Rattle.descent.proofs.choose.Reads as choose
@@ -217,7 +218,7 @@ abbrev first : (t : ℕ) → Passed t → try-start-lts.Start (calls t) (try-sta
 first t f = f .before .before .before .before .before .before .before
 
 -- nothing is taken there
-free : (t : ℕ) (f : Passed t) → let a = first t f .args in firstTaken (a .interval) (a .rows .now) (a .s) (opAt (loopOf (a .file .now)) (a .op) .uses) ≡ none
+free : (t : ℕ) (f : Passed t) → let a = first t f .args in firstMet rowBase (a .interval) (a .rows .now) (a .s) (opAt (loopOf (a .file .now)) (a .op) .uses) ≡ none
 free t f = let k = f .before .before in free-place (k .conflict .result) _ (k .conflict .ensures) (f .enum-told .given .1)
 
 try-start-cast-starts : (t : ℕ) → try-start-lts.Need-cast-starts (calls t) (try-start-at t) try-start.Post

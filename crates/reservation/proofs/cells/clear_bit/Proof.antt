@@ -33,7 +33,7 @@ returns : tie.Need-returns
 returns c =
     let a = c .before .args in
     ap (λ (v : ℕ). set (a .rows .now) (a .row) v)
-    (and-not-shl (getD (a .rows .now) (a .row) 0) (a .slot - 1) (c .slice-known .given (a .row) .fits) (omega arith) (c .before .pre .bit))
+    (and-not-shl (getD (a .rows .now) (a .row) 0) (a .slot - 1) (c .slice-known .given (a .row) .fits) (omega arith) (c .before .pre .digit))
 
 pub clear-bit-spec : {M : Type 1} → statement M
 clear-bit-spec =

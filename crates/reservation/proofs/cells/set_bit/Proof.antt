@@ -33,7 +33,7 @@ returns : tie.Need-returns
 returns c =
     let a = c .before .args in
     ap (λ (v : ℕ). set (a .rows .now) (a .row) v)
-    (or-shl (getD (a .rows .now) (a .row) 0) (a .slot - 1) (omega arith) (c .before .pre .bit))
+    (or-shl (getD (a .rows .now) (a .row) 0) (a .slot - 1) (omega arith) (c .before .pre .digit))
 
 pub set-bit-spec : {M : Type 1} → statement M
 set-bit-spec =

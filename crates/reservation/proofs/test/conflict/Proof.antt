@@ -11,8 +11,9 @@ use borrow.Author.Count.{below-more}
 use borrow.Author.Needs.{needs}
 use Rattle.model.specs.Loop.{Use, opAt}
 use Rattle.model.specs.File.{loopOf}
+use Rattle.model.specs.Table.{rowBase}
 use Rattle.model.proofs.File.{accepted-ok}
-use Rattle.reservation.specs.Place.{takenIn, cyclesOf, rowAt}
+use Rattle.reservation.specs.Place.{metIn, cyclesOf, rowAt}
 use Rattle.reservation.proofs.TakenCells.{cycles-most, cycle-free, place-free, place-taken}
 use Rattle.reservation.proofs.test.conflict.Statement.{statement}
 use Rattle.reservation.proofs.test.conflict.Tie as tie
@@ -20,7 +21,7 @@ use Rattle.reservation.proofs.test.conflict.Tie as tie
 abbrev Inv-loop : tie.InvT-loop
 Inv-loop file op first start interval rows most₀ k₀ most k =
     (most ≤ 16) × (most ≤ k → cyclesOf (opAt (loopOf file) op .uses) ≤ k)
-    × ((i : ℕ) → i < k → takenIn interval (rowAt interval rows start i) i (opAt (loopOf file) op .uses) ≡ none)
+    × ((i : ℕ) → i < k → metIn rowBase interval (rowAt interval rows start i) i (opAt (loopOf file) op .uses) ≡ none)
 
 abbrev μ-loop : tie.MeasureT-loop
 μ-loop file op first start interval rows most₀ k₀ most k = 16 - k
@@ -67,7 +68,7 @@ returns c =
     let i = b .before .before in
     let h = i .before in
     let a = start h .args in
-    sym (place-taken (a .interval) (a .rows .now) (a .start) (uses (start h)) (h .loop .k) (c .before .c .given .0 .0) (cyclesOf (uses (start h))) (b .taken-in .result)
+    sym (place-taken rowBase (a .interval) (a .rows .now) (a .start) (uses (start h)) (h .loop .k) (c .before .c .given .0 .0) (cyclesOf (uses (start h))) (b .taken-in .result)
     (early i) (h .loop .inv .2) (b .taken-in .ensures) (c .before .c .given .1))
 
 enum-known-c-2 : tie.Need-enum-known-c-2 Inv-loop μ-loop
@@ -86,7 +87,7 @@ turn c = c .before .before .before .before .before .before
 told : (c : tie.After-known-told2 Inv-loop μ-loop)
     → let s = start (turn c) in
     let k = turn c .loop .k in
-    (takenIn (s .args .interval) (rowAt (s .args .interval) (s .args .rows .now) (s .args .start) k) k (uses s) ≡ none) × (c .before .c2 .given .0 .0 ≡ cyclesOf (uses s))
+    (metIn rowBase (s .args .interval) (rowAt (s .args .interval) (s .args .rows .now) (s .args .start) k) k (uses s) ≡ none) × (c .before .c2 .given .0 .0 ≡ cyclesOf (uses s))
 told c =
     let b = c .before .before .before in
     cycle-free (b .taken-in .result) (c .before .c2 .given .0 .0) (cyclesOf (uses (start (turn c)))) _ (b .taken-in .ensures) (c .before .c2 .given .1)
@@ -105,7 +106,7 @@ returns-2 : tie.Need-returns-2 Inv-loop μ-loop
 returns-2 c =
     let h = c .before in
     let a = start h .args in
-    sym (place-free (a .interval) (a .rows .now) (a .start) (uses (start h)) (h .loop .k) (h .loop .inv .2) (h .loop .inv .1 (c .loop-test .left)))
+    sym (place-free rowBase (a .interval) (a .rows .now) (a .start) (uses (start h)) (h .loop .k) (h .loop .inv .2) (h .loop .inv .1 (c .loop-test .left)))
 
 pub conflict-spec : {M : Type 1} → statement M
 conflict-spec =

@@ -10,9 +10,9 @@ use borrow.Author.Needs.{needs}
 use borrow.Author.Tests.{le-leb, lt-leb, lt-ltb}
 use Rattle.model.specs.Loop.{Use, UseOk, noUse, allUses}
 use Rattle.model.specs.File.{loopOf}
-use Rattle.model.specs.Table.{digitOf}
+use Rattle.model.specs.Table.{rowBase, digitOf}
 use Rattle.model.proofs.File.{accepted-ok}
-use Rattle.reservation.specs.Place.{takenBy}
+use Rattle.reservation.specs.Place.{metBy}
 use Rattle.model.proofs.Loop.{all-ok}
 use Rattle.reservation.proofs.TakenCells.{use-over}
 use Rattle.reservation.proofs.test.taken.Statement.{statement}
@@ -20,13 +20,13 @@ use Rattle.reservation.proofs.test.taken.Tie as tie
 
 -- the ways out, beside that of a use that is over (`use-over`): the use does not cover the cycle yet; it meets itself; or the row's bit says it
 module _ (ii row k : ℕ) (u : Use) where
-  early : k < u .offset → takenBy ii row k u ≡ false
+  early : k < u .offset → metBy rowBase ii row k u ≡ false
   early h = rw (lt-leb (u .offset) k h)
 
-  self : u .offset ≤ k → k < u .offset + u .duration → u .offset + ii ≤ k → takenBy ii row k u ≡ true
-  self p q h = rw (le-leb (u .offset) k p, lt-ltb k (u .offset + u .duration) q, le-leb (u .offset + ii) k h) (or-true (eqb (digitOf 2 row (u .slot)) 1))
+  self : u .offset ≤ k → k < u .offset + u .duration → u .offset + ii ≤ k → metBy rowBase ii row k u ≡ true
+  self p q h = rw (le-leb (u .offset) k p, lt-ltb k (u .offset + u .duration) q, le-leb (u .offset + ii) k h) (or-true (eqb (digitOf rowBase row (u .slot)) 1))
 
-  bit : u .offset ≤ k → k < u .offset + u .duration → k < u .offset + ii → takenBy ii row k u ≡ eqb (digitOf 2 row (u .slot)) 1
+  bit : u .offset ≤ k → k < u .offset + u .duration → k < u .offset + ii → metBy rowBase ii row k u ≡ eqb (digitOf rowBase row (u .slot)) 1
   bit p q h = rw (le-leb (u .offset) k p, lt-ltb k (u .offset + u .duration) q, lt-leb (u .offset + ii) k h) (or-false _)
 
 abbrev use-of : tie.Start → Use
@@ -56,7 +56,7 @@ returns-2 : tie.Need-returns-2
 returns-2 c =
     let b = c .before in
     let s = start (b .before .before) in
-    sym (use-over (s .args .interval) (s .args .row) (s .args .k) (use-of s) (omega (arith, b .before .before .offset .ensures, b .duration .ensures)))
+    sym (use-over rowBase (s .args .interval) (s .args .row) (s .args .k) (use-of s) (omega (arith, b .before .before .offset .ensures, b .duration .ensures)))
 
 -- past the first two tests the use covers the cycle
 abbrev turn : tie.Else2 → tie.Start
@@ -92,7 +92,7 @@ returns-4 c =
     let s = start (far c) in
     let h = covered (c .before .before) in
     ap (λ (x : ℕ). eqb x 1) (and-mask (s .args .row / 2 ^ (c .slot .result - 1)) 1)
-    ∙ ap (λ (x : ℕ). eqb (digitOf 2 (s .args .row) x) 1) (c .slot .ensures)
+    ∙ ap (λ (x : ℕ). eqb (digitOf rowBase (s .args .row) x) 1) (c .slot .ensures)
     ∙ sym (bit (s .args .interval) (s .args .row) (s .args .k) (use-of s) (h .0) (h .1) (omega (arith, far c .offset .ensures)))
 
 pub taken-spec : {M : Type 1} → statement M

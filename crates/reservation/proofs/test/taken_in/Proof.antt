@@ -13,9 +13,10 @@ use borrow.Author.Count.{below-more}
 use Rattle.model.specs.Lists.{maxOf}
 use Rattle.model.specs.Loop.{Use, noUse, opAt, useAt}
 use Rattle.model.specs.File.{loopOf}
+use Rattle.model.specs.Table.{rowBase}
 use Rattle.model.proofs.File.{accepted-ok}
 use Rattle.model.proofs.Firsts.{first-at, first-not}
-use Rattle.reservation.specs.Place.{takenBy, takenIn, cyclesOf, cycleIs}
+use Rattle.reservation.specs.Place.{metBy, metIn, cyclesOf, cycleIs}
 use Rattle.reservation.specs.declared.test.Cycle.the-variants as cycle
 use Rattle.reservation.proofs.TakenCells.{cycles-more}
 use Rattle.reservation.proofs.UseNumbers.{UseHere, use-here}
@@ -24,7 +25,7 @@ use Rattle.reservation.proofs.test.taken_in.Tie as tie
 
 abbrev Inv-loop : tie.InvT-loop
 Inv-loop file op first k interval row n most₀ j₀ most j =
-    (j ≤ n) × (most ≡ cyclesOf (take j (opAt (loopOf file) op .uses))) × ((i : ℕ) → i < j → takenBy interval row k (useAt (opAt (loopOf file) op) i) ≡ false)
+    (j ≤ n) × (most ≡ cyclesOf (take j (opAt (loopOf file) op .uses))) × ((i : ℕ) → i < j → metBy rowBase interval row k (useAt (opAt (loopOf file) op) i) ≡ false)
 
 abbrev μ-loop : tie.MeasureT-loop
 μ-loop file op first k interval row n most₀ j₀ most j = n - j
@@ -68,14 +69,14 @@ slot-requires c κs = let i = c .before .before in (start (i .before) .pre .0, h
 
 -- whether a use meets a taken cell
 abbrev test : tie.At-loop Inv-loop μ-loop → Use → Bool
-test c = let a = start c .args in takenBy (a .interval) (a .row) (a .k)
+test c = let a = start c .args in metBy rowBase (a .interval) (a .row) (a .k)
 
 -- the call says it of use j
 told : (c : tie.After-taken Inv-loop μ-loop) → let h = c .before .before in c .taken .result ≡ test h (now-use h)
 told c = c .taken .ensures ∙ ap (test (c .before .before)) (here (c .before) .is)
 
 returns : tie.Need-returns Inv-loop μ-loop
-unfolding takenIn
+unfolding metIn
 returns c =
     let b = c .before .before in
     let i = b .before in
@@ -123,7 +124,7 @@ loop-again c =
     )
 
 returns-2 : tie.Need-returns-2 Inv-loop μ-loop
-unfolding takenIn
+unfolding metIn
 returns-2 c =
     let h = c .before in
     let none-found = first-not (test h) (uses h) noUse (λ i l. h .loop .inv .2 i (omega (arith, h .before .use-count .ensures))) in
