@@ -14,16 +14,18 @@ use Rattle.model.specs.Loop.{Loop, size, opAt, LoopOk}
 use Rattle.model.specs.File.{loopOf, Accepted}
 use Rattle.model.specs.Legality.{Placing, legalAt, placeAt, fitsAt}
 use Rattle.model.specs.Table.{rowBase, IsTable, cellsOf}
-use Rattle.model.proofs.Lists.{and-both}
+use Rattle.model.specs.Session.{placedIn}
 use Rattle.model.proofs.File.{accepted-ok}
-use Rattle.model.proofs.Legality.{fits-conflict, Part, place-same}
-use Rattle.model.proofs.Counts.{legal-part, legal-place}
+use Rattle.model.proofs.Legality.{fits-conflict, Part}
+use Rattle.model.proofs.Counts.{legal-part}
+use Rattle.model.proofs.Good.{Good}
 use Rattle.reservation.specs.Rows.{overUses, withOne, lessOne, UsesIn}
 use Rattle.reservation.specs.Seats.{seatOf, seats}
 use Rattle.reservation.proofs.RowUpdates.{uses-rest}
 use Rattle.reservation.proofs.Placings.{legal-digits, reserve-place, reserve-uses, release-place, release-uses}
 use Rattle.reservation.proofs.Seats.{seat-some, seat-none}
-use Rattle.board.specs.Board.{Sane, Board, IsPut}
+use Rattle.board.specs.Board.{startsOf, setupAs, Sane, Board, IsPut}
+use Rattle.board.proofs.Readings.{starts-length, seats-are}
 
 -- ---- ranges
 
@@ -48,13 +50,33 @@ board-far b = record {
 pub sane-near : {l : Loop} {ii h : ℕ} {xs : List ℕ} → Sane l ii h xs → (o : ℕ) → (getD xs o 65535 ≡ 65535 → ⊥) → getD xs o 65535 < h
 sane-near {xs} s o n = s .near o (getD xs o 65535) (seat-some (getD xs o 65535) n)
 
--- so every number fits in 16 bits
-pub sane-wide : {l : Loop} {ii h : ℕ} {xs : List ℕ} → Sane l ii h xs → h ≤ 4096 → (o : ℕ) → getD xs o 65535 < 65536
-sane-wide {xs} s m o = pick (ℕ-discrete (getD xs o 65535) 65535)
-  where
-    pick : Dec (getD xs o 65535 ≡ 65535) → getD xs o 65535 < 65536
-    pick (yes e) = omega arith
-    pick (no n) = omega (arith, sane-near s o n)
+-- ---- as the model has it
+
+-- the model's placing is the array's
+pub same-seats : (f xs : List ℕ) → Accepted f → length xs ≡ 64 → ((o : ℕ) → size (loopOf f) ≤ o → getD xs o 65535 ≡ 65535) → placedIn (startsOf (size (loopOf f)) xs) ≡ seats xs
+same-seats f xs a whole = seats-are (size (loopOf f)) xs (omega (arith, few-operations f a))
+
+-- sane starts are good
+pub sane-good : (f : List ℕ) {ii h : ℕ} {xs : List ℕ} → Accepted f → Sane (loopOf f) ii h xs → Good (setupAs f ii h) (startsOf (size (loopOf f)) xs)
+sane-good f {ii} {xs = xs} a s =
+    let same = same-seats f xs a (s .whole) (s .blank) in
+    record {
+      whole = starts-length (size (loopOf f)) xs (omega (arith, few-operations f a, s .whole));
+      near = λ o t e. s .near o t (sym (ap (λ (g : Placing). g o) same) ∙ e);
+      fine = ap (legalAt (loopOf f) ii) same ∙ s .fine;
+    }
+
+-- and the other way round, where places that are no operation's are blank
+pub good-sane : (f : List ℕ) {ii h : ℕ} {xs : List ℕ} → Accepted f → length xs ≡ 64 → ((o : ℕ) → size (loopOf f) ≤ o → getD xs o 65535 ≡ 65535)
+    → Good (setupAs f ii h) (startsOf (size (loopOf f)) xs) → Sane (loopOf f) ii h xs
+good-sane f {ii} {xs = xs} a whole blank g =
+    let same = same-seats f xs a whole blank in
+    record {
+      whole = whole;
+      blank = blank;
+      near = λ o t e. g .near o t (ap (λ (g : Placing). g o) same ∙ e);
+      fine = ap (legalAt (loopOf f) ii) (sym same) ∙ g .fine;
+    }
 
 -- ---- one number changed
 
@@ -79,26 +101,6 @@ pub lift-open : (xs : List ℕ) (o : ℕ) → o < length xs → seats (set xs o 
 lift-open xs o l = seat-none (getD (set xs o 65535) o 65535) (getD-set-same xs o 65535 65535 l)
 
 -- ---- sane starts
-
--- an operation put in where it fits
-pub put-sane : {l : Loop} {ii h : ℕ} {xs : List ℕ} (o t : ℕ) → LoopOk l → 1 ≤ ii → Sane l ii h xs → h ≤ 4096 → o < size l → seats xs o ≡ none → t < h
-    → fitsAt l ii (seats xs) o t ≡ true → Sane l ii h (set xs o t)
-put-sane {l} {ii} {h} {xs} o t ok pos s far inside free near fits = record {
-  whole = length-set xs o t ∙ s .whole;
-  blank = λ p m. getD-set-other xs o p t 65535 (λ e. omega arith) ∙ s .blank p m;
-  near = λ p x e. go p x e (ℕ-discrete p o);
-  fine = ap (legalAt l ii) is ∙ legal-place l ii ok pos (seats xs) o t inside free ∙ and-both (legalAt l ii (seats xs)) (fitsAt l ii (seats xs) o t) (s .fine) fits;
-}
-  where
-    is : seats (set xs o t) ≡ placeAt (seats xs) o t
-    is = put-seats xs o t (omega (arith, s .whole, ok .few)) (λ e. omega arith)
-
-    go : (p x : ℕ) → seats (set xs o t) p ≡ some x → Dec (p ≡ o) → x < h
-    go p x e (yes q) =
-        let y : seats (set xs o t) p ≡ some t = ap (λ (g : Placing). g p) is ∙ ap (λ (k : ℕ). placeAt (seats xs) o t k) q ∙ place-same (seats xs) o t in
-        let z : t ≡ x = cc in
-        omega arith
-    go p x e (no d) = s .near p x (sym (ap seatOf (getD-set-other xs o p t 65535 d)) ∙ e)
 
 -- each number of ys is blank or that of xs
 abbrev pub Fewer : (ys xs : List ℕ) → Type 0
@@ -136,10 +138,6 @@ lift-fewer xs o p = go (ℕ-discrete p o) (decLt o (length xs))
     go (yes e) (no m) = inr (ap (λ (ys : List ℕ). getD ys p 65535) (set-out xs o 65535 (omega arith)))
     go (no d) l = inr (getD-set-other xs o p 65535 65535 d)
 
--- an operation taken out
-pub lift-sane : {l : Loop} {ii h : ℕ} {xs : List ℕ} (o : ℕ) → LoopOk l → 1 ≤ ii → Sane l ii h xs → Sane l ii h (set xs o 65535)
-lift-sane {xs} o ok pos s = part-sane (set xs o 65535) ok pos s (length-set xs o 65535 ∙ s .whole) (lift-fewer xs o)
-
 -- ---- boards
 
 -- there is a place for each operation
@@ -150,24 +148,19 @@ board-inside {f} o b m = omega (arith, few-operations f (b .accepted), b .sane .
 pub rest-length : {f : List ℕ} {ii h k : ℕ} {xs rows xs′ rows′ : List ℕ} → Board f ii h xs rows → Board f ii k xs′ rows′ → drop ii rows′ ≡ drop ii rows → length rows′ ≡ length rows
 rest-length {ii} {rows} {rows′} b d e = omega (arith, length-drop ii rows, length-drop ii rows′, ap length e, b .held .long, d .held .long)
 
--- an operation put in where it fits
-pub put-board : {f : List ℕ} {ii h o t : ℕ} {xs rows xs′ rows′ : List ℕ} → Board f ii h xs rows → o < size (loopOf f) → seats xs o ≡ none → t < h
-    → fitsAt (loopOf f) ii (seats xs) o t ≡ true → IsPut f ii o t xs rows xs′ rows′ → Board f ii h xs′ rows′
-put-board {f} {ii} {h} {o} {t} b inside free near fits p = record {
+-- one number changed, so that all are blank or those of sane starts
+pub part-board : {f : List ℕ} {ii h o x : ℕ} {xs rows ws xs′ rows′ : List ℕ} → Board f ii h xs rows → Sane (loopOf f) ii h ws → Fewer (set xs o x) ws
+    → IsPut f ii o x xs rows xs′ rows′ → Board f ii h xs′ rows′
+part-board {f} {o = o} {x} {xs} b s fewer p = record {
   accepted = b .accepted;
   numbers = b .numbers;
-  sane = rw (p .starts-are) (put-sane o t (accepted-ok f (b .accepted)) (b .numbers .some) (b .sane) (b .numbers .far) inside free near fits);
+  sane = rw (p .starts-are) (part-sane (set xs o x) (accepted-ok f (b .accepted)) (b .numbers .some) s (length-set xs o x ∙ b .sane .whole) fewer);
   held = p .held;
 }
 
 -- an operation taken out
 pub lift-board : {f : List ℕ} {ii h o : ℕ} {xs rows xs′ rows′ : List ℕ} → Board f ii h xs rows → IsPut f ii o 65535 xs rows xs′ rows′ → Board f ii h xs′ rows′
-lift-board {f} {o = o} b p = record {
-  accepted = b .accepted;
-  numbers = b .numbers;
-  sane = rw (p .starts-are) (lift-sane o (accepted-ok f (b .accepted)) (b .numbers .some) (b .sane));
-  held = p .held;
-}
+lift-board {o = o} {xs} b p = part-board b (b .sane) (lift-fewer xs o) p
 
 -- ---- their rows
 

@@ -1,22 +1,23 @@
 -- What placing and removing come to: from the checks and the leaf to `Did`. Assumes nothing.
 use mathlib.Core.Path.{_≡_, refl, sym, ap, _∙_, subst}
-use mathlib.Core.Bool.{true, false}
+use mathlib.Core.Bool.{true}
 use mathlib.Core.List.{List}
 use mathlib.Core.Option.{none, some}
 use Prim.Native.Nat.{ℕ, _<_}
 use native.Mathlib.Decide.{ℕ-discrete}
 use native.Mathlib.Omega.{arith}
 use borrow.Author.Tests.{leb-false, not-false}
-use lib.ListN.{length, getD, set, drop}
-use Rattle.model.specs.Lists.{upFrom, anyOf}
+use lib.ListN.{length, getD, set, drop, length-set}
+use lib.Seq.{getD-set-other}
 use Rattle.model.specs.Refusals.{Refusal, firstRefusal, Answer, answered, refused}
-use Rattle.model.specs.Loop.{size, depAt}
+use Rattle.model.specs.Loop.{size}
 use Rattle.model.specs.File.{loopOf}
-use Rattle.model.specs.Legality.{Placing, breaks, firstBreach, conflicts, fitsAt}
+use Rattle.model.specs.Legality.{Placing, fitsAt}
 use Rattle.model.specs.Session.{State, Call, place, remove, Reply, isPlaced, checks, effect, step}
-use Rattle.model.proofs.Lists.{and-both, false-not, none-first}
-use Rattle.model.proofs.Checks.{passes-head, passes-tail, passes-left, passes-right, not-found}
-use Rattle.model.proofs.Legality.{fits-tests}
+use Rattle.model.proofs.Checks.{passes-head, passes-tail}
+use Rattle.model.proofs.File.{accepted-ok}
+use Rattle.model.proofs.Good.{passed, good-step}
+use Rattle.model.proofs.Good as good
 use Rattle.model.proofs.Session.{step-refused, step-done}
 use Rattle.reservation.specs.Seats.{seats}
 use Rattle.reservation.proofs.Seats.{seat-none, seat-some}
@@ -24,13 +25,12 @@ use Rattle.refusals.specs.Checked.{refusalOf}
 use Rattle.refusals.specs.declared.Checked.{Checked}
 use Rattle.refusals.specs.declared.Checked.the-variants as checked
 use Rattle.board.specs.Checks.{asReply}
-use Rattle.board.specs.Board.{setupAs, bare, startsOf, Board, IsPut}
+use Rattle.board.specs.Board.{setupAs, bare, startsOf, Sane, Board, IsPut}
 use Rattle.board.specs.Moves.{replyOf, Did}
 use Rattle.board.specs.declared.Reply as declared
 use Rattle.board.specs.declared.Reply.the-variants as reply
 use Rattle.board.proofs.Readings.{starts-at, starts-set}
-use Rattle.board.proofs.Boards.{put-board, lift-board, sane-near}
-use Rattle.board.proofs.Refusals.{common, same-seats, known-inside, known-near, known-open}
+use Rattle.board.proofs.Boards.{same-seats, sane-good, good-sane, sane-near}
 
 -- a number that is not a start is the blank
 pub blank-is : (xs : List ℕ) (o : ℕ) → seats xs o ≡ none → getD xs o 65535 ≡ 65535
@@ -61,52 +61,50 @@ module _ {f : List ℕ} {ii h : ℕ} {xs rows : List ℕ} (b : Board f ii h xs r
   pub did-passed : (c : Call) {x : Checked} {r : declared.Reply} {n d : ℕ} → refusalOf x ≡ firstRefusal (checks (setupAs f ii h) c (bare f xs)) → x ≡ checked.Refused n d → r ≡ asReply x → Did c f ii h xs rows xs rows r
   did-passed c {n = n} {d = d} is e t = rw (t ∙ ap asReply e) (did-refused c n d (sym is ∙ ap refusalOf e))
 
-  -- a call that is done: its effect is that of the model
-  pub did-done : (c : Call) (r : declared.Reply) {xs′ rows′ : List ℕ} → firstRefusal (checks (setupAs f ii h) c (bare f xs)) ≡ none
+  -- a call that is done: its effect is that of the model, and the starts with one number changed are as many and as good as the model's
+  pub did-done : (c : Call) (r : declared.Reply) {o x k : ℕ} {ys mid xs′ rows′ : List ℕ} → firstRefusal (checks (setupAs f ii h) c (bare f xs)) ≡ none
       → replyOf r ≡ answered (effect (setupAs f ii h) c (bare f xs) .1) → startsOf (size (loopOf f)) xs′ ≡ effect (setupAs f ii h) c (bare f xs) .0 .starts
-      → Board f ii h xs′ rows′ → drop ii rows′ ≡ drop ii rows → Did c f ii h xs rows xs′ rows′ r
-  did-done c r e p q b′ k =
-      let s = step-done (setupAs f ii h) c (bare f xs) e in
+      → o < size (loopOf f) → Sane (loopOf f) ii k ys → IsPut f ii o x ys mid xs′ rows′ → drop ii mid ≡ drop ii rows → Did c f ii h xs rows xs′ rows′ r
+  did-done c r {o} {x} {ys = ys} e p q inside s i k =
+      let d = step-done (setupAs f ii h) c (bare f xs) e in
+      let are = q ∙ sym (ap (λ (p : State × Answer Reply). p .0 .starts) d) in
+      let good = good-step (setupAs f ii h) (accepted-ok f (b .accepted)) (b .numbers .some) c (bare f xs) (record { now = sane-good f (b .accepted) (b .sane); saved = λ i l. absurd (omega arith) }) in
       record {
-        reply = p ∙ sym (ap (λ (p : State × Answer Reply). p .1) s);
-        starts-are = q ∙ sym (ap (λ (p : State × Answer Reply). p .0 .starts) s);
-        board = b′;
-        rest = k;
+        reply = p ∙ sym (ap (λ (p : State × Answer Reply). p .1) d);
+        starts-are = are;
+        board =
+            record {
+              accepted = b .accepted;
+              numbers = b .numbers;
+              sane = good-sane f (b .accepted) (ap length (i .starts-are) ∙ length-set ys o x ∙ s .whole)
+                  (λ q m. rw (i .starts-are) (getD-set-other ys o q x 65535 (λ e. omega arith) ∙ s .blank q m)) (rw are (good .now));
+              held = i .held;
+            };
+        rest = i .rest ∙ k;
         kept = λ x z. done-kept _ x (sym p ∙ z);
       }
 
   module _ (o t : ℕ) (fine : firstRefusal (checks (setupAs f ii h) (place o t) (bare f xs)) ≡ none) where
-    -- the checks that forcing has too
-    known : firstRefusal (common f h o t xs) ≡ none
-    known = passes-left (common f h o t xs) _ fine
-
     -- the operation is there, not placed, and its start below the horizon
     pub place-inside : o < size (loopOf f)
-    place-inside = known-inside f h o t xs known
+    place-inside = passed (setupAs f ii h) (bare f xs) o t _ _ fine .inside
 
     pub place-open : seats xs o ≡ none
-    place-open = known-open f h o t xs known
+    place-open = sym (starts-at (size (loopOf f)) xs o place-inside) ∙ passed (setupAs f ii h) (bare f xs) o t _ _ fine .free
 
     pub place-near : t < h
-    place-near = known-near f h o t xs known
+    place-near = passed (setupAs f ii h) (bare f xs) o t _ _ fine .soon
 
     -- it fits
     pub place-fits : fitsAt (loopOf f) ii (seats xs) o t ≡ true
-    unfolding firstBreach
-    place-fits =
-        let later = passes-right (common f h o t xs) _ fine in
-        fits-tests (loopOf f) ii (seats xs) o t
-        ∙ and-both _ _
-        (false-not _
-        (subst (λ (g : Placing). anyOf (λ e. breaks ii g o t (depAt (loopOf f) e)) (upFrom 0 (length (loopOf f .deps))) ≡ false) (same-seats f ii h xs rows b o t) (none-first _ _ (not-found 16 _ (passes-head _ _ later)))))
-        (false-not _ (subst (λ (g : Placing). conflicts (loopOf f) ii g o t ≡ false) (same-seats f ii h xs rows b o t) (passes-head _ _ (passes-tail _ _ later))))
+    place-fits = subst (λ (g : Placing). fitsAt (loopOf f) ii g o t ≡ true) (same-seats f xs (b .accepted) (b .sane .whole) (b .sane .blank)) (good.place-fits (setupAs f ii h) (bare f xs) o t fine)
 
     -- placed
     pub did-place : {xs′ rows′ : List ℕ} → IsPut f ii o t xs rows xs′ rows′ → Did (place o t) f ii h xs rows xs′ rows′ reply.Done
     did-place p =
         did-done (place o t) reply.Done fine refl
         (ap (startsOf (size (loopOf f))) (p .starts-are) ∙ starts-set (size (loopOf f)) xs o t ∙ ap (set (startsOf (size (loopOf f)) xs) o) (seat-some t (λ e. omega (arith, place-near, b .numbers .far))))
-        (put-board b place-inside place-open place-near place-fits p) (p .rest)
+        place-inside (b .sane) p refl
 
   module _ (o : ℕ) (fine : firstRefusal (checks (setupAs f ii h) (remove o) (bare f xs)) ≡ none) where
     -- the operation is there
@@ -132,4 +130,4 @@ module _ {f : List ℕ} {ii h : ℕ} {xs rows : List ℕ} (b : Board f ii h xs r
     did-remove p =
         did-done (remove o) reply.Done fine refl
         (ap (startsOf (size (loopOf f))) (p .starts-are) ∙ starts-set (size (loopOf f)) xs o 65535)
-        (lift-board b p) (p .rest)
+        remove-inside (b .sane) p refl

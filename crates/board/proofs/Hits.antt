@@ -2,7 +2,6 @@
 use mathlib.Core.Path.{_≡_, refl, sym, ap, ap₂, _∙_, fun-ext}
 use mathlib.Core.Bool.{Bool, true, false, _&&_, _||_, or-false, or-true, and-true, and-false}
 use mathlib.Core.List.{List, [], _∷_}
-use mathlib.Core.Logic.{_⊎_, inl, inr}
 use Prim.Native.Nat.{ℕ, _+_, _<_}
 use native.Mathlib.Nat.{zero-add}
 use native.Mathlib.Decide.{ℕ-discrete}
@@ -13,9 +12,9 @@ use lib.ListN.{length, getD, set, replicate, length-set, length-replicate}
 use lib.Seq.{getD-set-same, getD-set-other}
 use Rattle.model.specs.Lists.{upFrom, anyOf}
 use Rattle.model.specs.Loop.{Dep, Loop, size, depAt}
-use Rattle.model.specs.Legality.{Placing, brokenAt, broken, placeAt, touches, breaks}
-use Rattle.model.proofs.Lists.{and-left, upFrom-split, getD-filled, any-append, any-row}
-use Rattle.model.proofs.Legality.{place-other}
+use Rattle.model.specs.Legality.{Placing, broken, placeAt, touches, breaks}
+use Rattle.model.proofs.Lists.{and-left, upFrom-split, getD-filled, any-append}
+use Rattle.model.proofs.Legality.{breaks-same}
 use Rattle.reservation.specs.Seats.{seats}
 use Rattle.board.specs.Moves.{hitBy, HitsAre}
 
@@ -38,11 +37,6 @@ module _ (l : Loop) (ii : ℕ) (g : Placing) (o t : ℕ) where
   hit-next : (k p : ℕ) → hitBy l ii g o t (k + 1) p ≡ (hitBy l ii g o t k p || (touches p (depAt l k) && breaks ii g o t (depAt l k)))
   unfolding hitBy
   hit-next k p = any-next (λ e. touches p (depAt l e) && breaks ii g o t (depAt l e)) k
-
-  -- by none of the first k dependences: not by one of them
-  pub hit-not : (k p e : ℕ) → hitBy l ii g o t k p ≡ false → e < k → (touches p (depAt l e) && breaks ii g o t (depAt l e)) ≡ false
-  unfolding hitBy
-  hit-not k p e h m = any-row (λ e. touches p (depAt l e) && breaks ii g o t (depAt l e)) 0 k e h (omega arith) (omega arith)
 
 -- ---- the ends of a dependence
 
@@ -116,43 +110,7 @@ module _ {l : Loop} {ii o t k : ℕ} {xs hits : List ℕ} (h : HitsAre l ii o t 
 
 -- ---- only its own start counts
 
--- a dependence with x at an end
-touched : (x : ℕ) (d : Dep) → touches x d ≡ true → (d .src ≡ x) ⊎ (d .dst ≡ x)
-touched x d h = pick (eqb (d .src) x) refl
-  where
-    pick : (b : Bool) → eqb (d .src) x ≡ b → (d .src ≡ x) ⊎ (d .dst ≡ x)
-    pick true e = inl (eqb-true (d .src) x e)
-    pick false e = inr (eqb-true (d .dst) x (rw e at h))
-
--- two tests, and a third one that matters only where both succeed
-third-same : (a b c e : Bool) → (a ≡ true → b ≡ true → c ≡ e) → (a && (b && c)) ≡ (a && (b && e))
-third-same true true c e h = h refl refl
-third-same true false c e h = refl
-third-same false b c e h = refl
-
-module _ (ii : ℕ) (g k : Placing) (o t p : ℕ) (same : g p ≡ k p) (other : p ≡ o → ⊥) where
-  -- with o at t, two placings that agree at p have the same start at p and at o
-  end-same : (x : ℕ) → (x ≡ p) ⊎ (x ≡ o) → placeAt g o t x ≡ placeAt k o t x
-  end-same x (inl e) = ap (placeAt g o t) e ∙ place-other g o t p other ∙ same ∙ sym (place-other k o t p other) ∙ ap (placeAt k o t) (sym e)
-  end-same x (inr e) = rw (eq-eqb x o e)
-
-  -- so a dependence between the two is broken in both or in neither
-  broken-same : (d : Dep) → touches p d ≡ true → touches o d ≡ true → broken ii (placeAt g o t) d ≡ broken ii (placeAt k o t) d
-  broken-same d a b = pick (touched p d a) (touched o d b)
-    where
-      both : (d .src ≡ p) ⊎ (d .src ≡ o) → (d .dst ≡ p) ⊎ (d .dst ≡ o) → broken ii (placeAt g o t) d ≡ broken ii (placeAt k o t) d
-      both u v = ap₂ (brokenAt ii d) (end-same (d .src) u) (end-same (d .dst) v)
-
-      pick : (d .src ≡ p) ⊎ (d .dst ≡ p) → (d .src ≡ o) ⊎ (d .dst ≡ o) → broken ii (placeAt g o t) d ≡ broken ii (placeAt k o t) d
-      pick (inl e) (inl q) = absurd (other (sym e ∙ q))
-      pick (inl e) (inr q) = both (inl e) (inr q)
-      pick (inr e) (inl q) = both (inr q) (inl e)
-      pick (inr e) (inr q) = absurd (other (sym e ∙ q))
-
-  pub breaks-same : (d : Dep) → (touches p d && breaks ii g o t d) ≡ (touches p d && breaks ii k o t d)
-  breaks-same d = third-same (touches p d) (touches o d) (broken ii (placeAt g o t) d) (broken ii (placeAt k o t) d) (broken-same d)
-
-  -- and p is hit in both or in neither
-  pub hit-same : (l : Loop) (n : ℕ) → hitBy l ii g o t n p ≡ hitBy l ii k o t n p
-  unfolding hitBy
-  hit-same l n = ap (λ (q : ℕ → Bool). anyOf q (upFrom 0 n)) (fun-ext (λ e. breaks-same (depAt l e)))
+-- p is hit in both of two placings that agree at p, or in neither
+pub hit-same : (ii : ℕ) (g k : Placing) (o t p : ℕ) → g p ≡ k p → (p ≡ o → ⊥) → (l : Loop) (n : ℕ) → hitBy l ii g o t n p ≡ hitBy l ii k o t n p
+unfolding hitBy
+hit-same ii g k o t p same other l n = ap (λ (q : ℕ → Bool). anyOf q (upFrom 0 n)) (fun-ext (λ e. breaks-same ii g k o t p same other (depAt l e)))

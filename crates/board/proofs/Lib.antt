@@ -1,6 +1,6 @@
 -- Hand-written laws of the crate that belong to no one function.
-pub mod Boards
 pub mod Readings
+pub mod Boards
 pub mod Refusals
 pub mod Effects
 pub mod Hits

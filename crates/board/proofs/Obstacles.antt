@@ -1,11 +1,10 @@
 -- What is in the way of an operation that is forced, and the starts without it. Assumes nothing.
-use mathlib.Core.Path.{_≡_, refl, sym, ap, ap₂, _∙_}
-use mathlib.Core.Bool.{Bool, true, false, not, cond, _&&_, _||_, or-false, or-true, and-false}
-use mathlib.Core.List.{List, map}
-use mathlib.Core.Logic.{_⊎_, inl, inr}
+use mathlib.Core.Path.{_≡_, refl, sym, ap, ap₂, _∙_, subst}
+use mathlib.Core.Bool.{Bool, true, false, not, cond, _&&_, _||_, or-false, or-true}
+use mathlib.Core.List.{List}
 use mathlib.Core.Option.{Option, none, some}
 use Prim.Native.Nat.{ℕ, zero, suc, _+_, _*_, _%_, _^_, _<_}
-use native.Mathlib.Nat.{zero-add, div-eq-of-lt}
+use native.Mathlib.Nat.{div-eq-of-lt}
 use native.Mathlib.Decide.{ℕ-discrete, decLt}
 use native.Mathlib.Omega.{arith}
 use borrow.Author.Tests.{eq-eqb, ne-eqb, lt-ltb, le-ltb}
@@ -16,25 +15,23 @@ use lib.Pow.{pow-pos, pow-add}
 use lib.Seq.{getD-set-same, getD-set-other, ext-getD}
 use Rattle.model.specs.Lists.{upFrom, anyOf, sumOf}
 use Rattle.model.specs.Refusals.{firstRefusal, answered}
-use Rattle.model.specs.Loop.{Dep, Loop, noDep, size, opAt, depAt}
+use Rattle.model.specs.Loop.{Loop, noDep, size, opAt}
 use Rattle.model.specs.File.{loopOf, Accepted}
-use Rattle.model.specs.Legality.{Placing, conflict, conflictAt, selfConflict, brokenAt, placeAt, touches, breaks, firstBreach, conflictsWith, fitsAt}
-use Rattle.model.specs.Session.{Starts, force, displaced, isPlaced, nowhere, checks, inTheWay, without, maskOf}
-use Rattle.model.proofs.Lists.{false-not, and-both, or-both, row-any, or-false-left, or-false-right, length-tabulate, getD-tabulate, none-first, any-row, any-places}
+use Rattle.model.specs.Legality.{Placing, conflict, conflictAt, touches, breaks, conflictsWith, fitsAt}
+use Rattle.model.specs.Session.{Starts, placedIn, force, displaced, isPlaced, checks, inTheWay, without, maskOf}
+use Rattle.model.proofs.Lists.{any-places}
 use Rattle.model.proofs.Sums.{sum-next}
-use Rattle.model.proofs.Checks.{passes-head, passes-tail, passes-left, passes-right, not-found}
-use Rattle.model.proofs.File.{accepted-ok}
-use Rattle.model.proofs.Legality.{fits-tests, place-same, place-other}
+use Rattle.model.proofs.Good.{without-length, without-at, passed}
+use Rattle.model.proofs.Good as good
 use Rattle.reservation.specs.Seats.{seatOf, seats}
 use Rattle.reservation.proofs.Bits.{or-shl}
 use Rattle.reservation.proofs.Seats.{seat-none, seat-some}
 use Rattle.board.specs.Board.{setupAs, startsOf, bare, Sane, Board, IsPut}
 use Rattle.board.specs.Moves.{hitBy, HitIs, HitsAre, way, Cleared, Did}
 use Rattle.board.specs.declared.Reply.the-variants as reply
-use Rattle.board.proofs.Readings.{starts-at, starts-length, starts-set, seats-are}
-use Rattle.board.proofs.Boards.{few-operations, board-far, sane-near, Fewer, part-sane, put-board, lift-board}
-use Rattle.board.proofs.Hits.{hit-not, breaks-same, hit-same}
-use Rattle.board.proofs.Refusals.{common, known-inside, known-near, known-open}
+use Rattle.board.proofs.Readings.{starts-at, starts-length, starts-set}
+use Rattle.board.proofs.Boards.{few-operations, board-far, sane-near, same-seats, lift-board}
+use Rattle.board.proofs.Hits.{hit-same}
 use Rattle.board.proofs.Effects.{blank-is, did-done}
 
 -- ---- in the way
@@ -49,7 +46,7 @@ module _ (f : List ℕ) {ii h : ℕ} {xs : List ℕ} (a : Accepted f) (s : Sane 
   unfolding inTheWay hitBy
   way-is k =
       ap (λ (g : Placing). isPlaced (g p) && (conflictsWith (loopOf f) ii g o t p || anyOf (λ d. touches p d && breaks ii g o t d) (loopOf f .deps)))
-      (seats-are (size (loopOf f)) xs (omega (arith, few-operations f a, s .whole)) (s .blank))
+      (same-seats f xs a (s .whole) (s .blank))
       ∙ ap (λ (b : Bool). isPlaced (seats xs p) && (conflictsWith (loopOf f) ii (seats xs) o t p || b))
       (any-places (λ d. touches p d && breaks ii (seats xs) o t d) (loopOf f .deps) noDep)
 
@@ -220,117 +217,17 @@ module _ {f : List ℕ} {ii o t p : ℕ} {xs₀ rows₀ xs rows : List ℕ} {mas
 
 -- ---- what is left
 
--- operation p is as it was, and was not in the way
-record Stays (l : Loop) (ii o t p : ℕ) (xs xs′ : List ℕ) : Type 0 where
-  pub same : seats xs′ p ≡ seats xs p
-  pub apart : conflictsWith l ii (seats xs) o t p ≡ false
-  pub unhit : hitBy l ii (seats xs) o t (length (l .deps)) p ≡ false
-
 module _ {f : List ℕ} {ii h o t : ℕ} {xs rows xs′ rows′ : List ℕ} {mask : ℕ} (b : Board f ii h xs rows) (c : Cleared f ii o t (size (loopOf f)) xs rows xs′ rows′ mask) where
-  -- what became of an operation
-  left-at : (p : ℕ) → p < size (loopOf f) → getD xs′ p 65535 ≡ cond (way f ii o t xs p) 65535 (getD xs p 65535)
-  left-at p l = c .at p ∙ rw (lt-ltb p (size (loopOf f)) l)
-
-  -- it is not placed, or stays
-  left : (p : ℕ) → (seats xs′ p ≡ none) ⊎ Stays (loopOf f) ii o t p xs xs′
-  left p = pick (decLt p (size (loopOf f))) (way f ii o t xs p) refl (ℕ-discrete (getD xs p 65535) 65535)
-    where
-      after : (w : Bool) → p < size (loopOf f) → way f ii o t xs p ≡ w → getD xs′ p 65535 ≡ cond w 65535 (getD xs p 65535)
-      after w l e = left-at p l ∙ ap (λ (v : Bool). cond v 65535 (getD xs p 65535)) e
-
-      stays : p < size (loopOf f) → way f ii o t xs p ≡ false → (conflictsWith (loopOf f) ii (seats xs) o t p || hitBy (loopOf f) ii (seats xs) o t (length (loopOf f .deps)) p) ≡ false
-          → Stays (loopOf f) ii o t p xs xs′
-      stays l e z = record {
-        same = ap seatOf (after false l e);
-        apart = or-false-left (conflictsWith (loopOf f) ii (seats xs) o t p) (hitBy (loopOf f) ii (seats xs) o t (length (loopOf f .deps)) p) z;
-        unhit = or-false-right (conflictsWith (loopOf f) ii (seats xs) o t p) (hitBy (loopOf f) ii (seats xs) o t (length (loopOf f .deps)) p) z;
-      }
-
-      pick : Dec (p < size (loopOf f)) → (w : Bool) → way f ii o t xs p ≡ w → Dec (getD xs p 65535 ≡ 65535) → (seats xs′ p ≡ none) ⊎ Stays (loopOf f) ii o t p xs xs′
-      pick (no m) w e d = inl (seat-none (getD xs′ p 65535) (c .board .sane .blank p (omega arith)))
-      pick (yes l) true e d = inl (seat-none (getD xs′ p 65535) (after true l e))
-      pick (yes l) false e (yes q) = inl (seat-none (getD xs′ p 65535) (after false l e ∙ q))
-      pick (yes l) false e (no n) = inr (stays l e (sym (way-placed f (b .accepted) (b .sane) o t p (getD xs p 65535) refl n) ∙ e))
-
-  -- so it does not conflict with o at t
-  left-apart : (p : ℕ) → conflictsWith (loopOf f) ii (seats xs′) o t p ≡ false
-  left-apart p = pick (left p)
-    where
-      with-start : Option ℕ → Bool
-      with-start x = not (eqb p o) && conflictAt ii (opAt (loopOf f) o) (some t) (opAt (loopOf f) p) x
-
-      pick : (seats xs′ p ≡ none) ⊎ Stays (loopOf f) ii o t p xs xs′ → conflictsWith (loopOf f) ii (seats xs′) o t p ≡ false
-      pick (inl e) = ap with-start e ∙ and-false (not (eqb p o))
-      pick (inr k) = ap with-start (k .same) ∙ k .apart
-
-  -- and no dependence is broken, if none of o with itself is
-  left-kept : (d : Dep) → ((p : ℕ) → hitBy (loopOf f) ii (seats xs) o t (length (loopOf f .deps)) p ≡ false → (touches p d && breaks ii (seats xs) o t d) ≡ false)
-      → breaks ii nowhere o t d ≡ false → breaks ii (seats xs′) o t d ≡ false
-  left-kept d unhit own = go (ℕ-discrete (d .src) o) (ℕ-discrete (d .dst) o)
-    where
-      by : (g : Placing) {x y : Option ℕ} → placeAt g o t (d .src) ≡ x → placeAt g o t (d .dst) ≡ y → breaks ii g o t d ≡ (touches o d && brokenAt ii d x y)
-      by g p q = ap₂ (λ (x y : Option ℕ). touches o d && brokenAt ii d x y) p q
-
-      here : (g : Placing) (x : ℕ) → x ≡ o → placeAt g o t x ≡ some t
-      here g x q = ap (placeAt g o t) q ∙ place-same g o t
-
-      end : (p : ℕ) → (p ≡ o → ⊥) → touches p d ≡ true → (placeAt (seats xs′) o t p ≡ none → breaks ii (seats xs′) o t d ≡ false) → breaks ii (seats xs′) o t d ≡ false
-      end p n is blank = pick (left p)
-        where
-          pick : (seats xs′ p ≡ none) ⊎ Stays (loopOf f) ii o t p xs xs′ → breaks ii (seats xs′) o t d ≡ false
-          pick (inl e) = blank (place-other (seats xs′) o t p n ∙ e)
-          pick (inr k) =
-              ap (λ (v : Bool). v && breaks ii (seats xs′) o t d) (sym is)
-              ∙ breaks-same ii (seats xs′) (seats xs) o t p (k .same) n d
-              ∙ unhit p (k .unhit)
-
-      go : Dec (d .src ≡ o) → Dec (d .dst ≡ o) → breaks ii (seats xs′) o t d ≡ false
-      go (yes a) (yes z) = by (seats xs′) (here (seats xs′) (d .src) a) (here (seats xs′) (d .dst) z) ∙ sym (by nowhere (here nowhere (d .src) a) (here nowhere (d .dst) z)) ∙ own
-      go (yes a) (no n) =
-          end (d .dst) n (rw (eq-eqb (d .dst) (d .dst) refl) (or-true (eqb (d .src) (d .dst))))
-          (λ e. by (seats xs′) (here (seats xs′) (d .src) a) e ∙ and-false (touches o d))
-      go (no n) z = end (d .src) n (rw (eq-eqb (d .src) (d .src) refl)) (λ e. by (seats xs′) e refl ∙ and-false (touches o d))
-
-  -- so o fits at t, if nothing that concerns o itself is against it
-  left-fits : ((e : ℕ) → e < length (loopOf f .deps) → breaks ii nowhere o t (depAt (loopOf f) e) ≡ false) → selfConflict ii (opAt (loopOf f) o) ≡ false
-      → fitsAt (loopOf f) ii (seats xs′) o t ≡ true
-  left-fits own self =
-      fits-tests (loopOf f) ii (seats xs′) o t
-      ∙ and-both _ _
-      (false-not _ (row-any _ 0 (length (loopOf f .deps)) (λ e l m.
-      left-kept (depAt (loopOf f) e) (λ p z. hit-not (loopOf f) ii (seats xs) o t (length (loopOf f .deps)) p e z (omega arith)) (own e (omega arith)))))
-      (false-not _ (or-both _ _ self (row-any _ 0 (size (loopOf f)) (λ p l m. left-apart p))))
-
-  -- the starts are a part of those before
-  left-fewer : Fewer xs′ xs
-  left-fewer p = rw (c .at p) (pick (ltb p (size (loopOf f)) && way f ii o t xs p))
-    where
-      pick : (w : Bool) → (cond w 65535 (getD xs p 65535) ≡ 65535) ⊎ (cond w 65535 (getD xs p 65535) ≡ getD xs p 65535)
-      pick true = inl refl
-      pick false = inr refl
-
-  -- so they are a board at the same horizon
-  left-board : Board f ii h xs′ rows′
-  left-board = record {
-    accepted = b .accepted;
-    numbers = b .numbers;
-    sane = part-sane xs′ (accepted-ok f (b .accepted)) (b .numbers .some) (b .sane) (c .board .sane .whole) left-fewer;
-    held = c .board .held;
-  }
-
-  -- ---- as the model has it
-
   -- all operations have a start in the model
   starts-all : length (startsOf (size (loopOf f)) xs) ≡ size (loopOf f)
   starts-all = starts-length (size (loopOf f)) xs (omega (arith, few-operations f (b .accepted), b .sane .whole))
 
   -- the starts
   left-starts : startsOf (size (loopOf f)) xs′ ≡ without (setupAs f ii h) (startsOf (size (loopOf f)) xs) o t
-  unfolding without inTheWay
+  unfolding inTheWay
   left-starts =
-      ext-getD none (startsOf (size (loopOf f)) xs′) (map (λ p. cond (way f ii o t xs p) none (getD (startsOf (size (loopOf f)) xs) p none)) (upFrom 0 (length (startsOf (size (loopOf f)) xs))))
-      (many ∙ sym (length-tabulate (λ p. cond (way f ii o t xs p) none (getD (startsOf (size (loopOf f)) xs) p none)) 0 (length (startsOf (size (loopOf f)) xs)) ∙ starts-all))
-      (λ p l. go p (omega (arith, many)))
+      ext-getD none (startsOf (size (loopOf f)) xs′) (without (setupAs f ii h) (startsOf (size (loopOf f)) xs) o t)
+      (many ∙ sym (without-length (setupAs f ii h) (startsOf (size (loopOf f)) xs) o t ∙ starts-all)) (λ p l. go p (omega (arith, many)))
     where
       many : length (startsOf (size (loopOf f)) xs′) ≡ size (loopOf f)
       many = starts-length (size (loopOf f)) xs′ (omega (arith, few-operations f (b .accepted), c .board .sane .whole))
@@ -339,13 +236,10 @@ module _ {f : List ℕ} {ii h o t : ℕ} {xs rows xs′ rows′ : List ℕ} {mas
       seat true x = seat-none 65535 refl
       seat false x = refl
 
-      go : (p : ℕ) → p < size (loopOf f) → getD (startsOf (size (loopOf f)) xs′) p none
-          ≡ getD (map (λ p. cond (way f ii o t xs p) none (getD (startsOf (size (loopOf f)) xs) p none)) (upFrom 0 (length (startsOf (size (loopOf f)) xs)))) p none
+      go : (p : ℕ) → p < size (loopOf f) → getD (startsOf (size (loopOf f)) xs′) p none ≡ getD (without (setupAs f ii h) (startsOf (size (loopOf f)) xs) o t) p none
       go p l =
-          starts-at (size (loopOf f)) xs′ p l ∙ ap seatOf (left-at p l) ∙ seat (way f ii o t xs p) (getD xs p 65535)
-          ∙ ap (λ (x : Option ℕ). cond (way f ii o t xs p) none x) (sym (starts-at (size (loopOf f)) xs p l))
-          ∙ sym (getD-tabulate (λ p. cond (way f ii o t xs p) none (getD (startsOf (size (loopOf f)) xs) p none)) 0 (length (startsOf (size (loopOf f)) xs)) p none (omega (arith, starts-all))
-          ∙ ap (λ (q : ℕ). cond (way f ii o t xs q) none (getD (startsOf (size (loopOf f)) xs) q none)) (zero-add p))
+          starts-at (size (loopOf f)) xs′ p l ∙ ap seatOf (c .at p ∙ ap (λ (v : Bool). cond (v && way f ii o t xs p) 65535 (getD xs p 65535)) (lt-ltb p (size (loopOf f)) l)) ∙ seat (way f ii o t xs p) (getD xs p 65535)
+          ∙ ap (cond (way f ii o t xs p) none) (sym (starts-at (size (loopOf f)) xs p l)) ∙ sym (without-at (setupAs f ii h) (startsOf (size (loopOf f)) xs) o t p)
 
   -- the mask
   left-mask : mask ≡ maskOf (setupAs f ii h) (startsOf (size (loopOf f)) xs) o t
@@ -355,30 +249,15 @@ module _ {f : List ℕ} {ii h o t : ℕ} {xs rows xs′ rows′ : List ℕ} {mas
 -- ---- forcing
 
 module _ {f : List ℕ} {ii h : ℕ} {xs rows : List ℕ} (b : Board f ii h xs rows) (o t : ℕ) (fine : firstRefusal (checks (setupAs f ii h) (force o t) (bare f xs)) ≡ none) where
-  -- the checks that placing has too
-  known : firstRefusal (common f h o t xs) ≡ none
-  known = passes-left (common f h o t xs) _ fine
-
   -- the operation is there, not placed, and its start below the horizon
   pub force-inside : o < size (loopOf f)
-  force-inside = known-inside f h o t xs known
+  force-inside = passed (setupAs f ii h) (bare f xs) o t _ _ fine .inside
 
   pub force-open : getD xs o 65535 ≡ 65535
-  force-open = blank-is xs o (known-open f h o t xs known)
+  force-open = blank-is xs o (sym (starts-at (size (loopOf f)) xs o force-inside) ∙ passed (setupAs f ii h) (bare f xs) o t _ _ fine .free)
 
   pub force-near : t < h
-  force-near = known-near f h o t xs known
-
-  -- it breaks no dependence with itself
-  force-kept : (e : ℕ) → e < length (loopOf f .deps) → breaks ii nowhere o t (depAt (loopOf f) e) ≡ false
-  unfolding firstBreach
-  force-kept e m =
-      any-row (λ e. breaks ii nowhere o t (depAt (loopOf f) e)) 0 (length (loopOf f .deps)) e
-      (none-first _ _ (not-found 16 _ (passes-head _ _ (passes-right (common f h o t xs) _ fine)))) (omega arith) (omega arith)
-
-  -- and does not conflict with itself
-  force-self : selfConflict ii (opAt (loopOf f) o) ≡ false
-  force-self = passes-head _ _ (passes-tail _ _ (passes-right (common f h o t xs) _ fine))
+  force-near = passed (setupAs f ii h) (bare f xs) o t _ _ fine .soon
 
   module _ {xs′ rows′ : List ℕ} {mask : ℕ} (c : Cleared f ii o t (size (loopOf f)) xs rows xs′ rows′ mask) where
     -- with what was in the way taken out it is still not placed
@@ -387,7 +266,9 @@ module _ {f : List ℕ} {ii h : ℕ} {xs rows : List ℕ} (b : Board f ii h xs r
 
     -- and fits
     pub force-fits : fitsAt (loopOf f) ii (seats xs′) o t ≡ true
-    force-fits = left-fits b c force-kept force-self
+    force-fits =
+        subst (λ (g : Placing). fitsAt (loopOf f) ii g o t ≡ true) (ap placedIn (sym (left-starts b c)) ∙ same-seats f xs′ (b .accepted) (c .board .sane .whole) (c .board .sane .blank))
+        (good.force-fits (setupAs f ii h) (bare f xs) o t fine)
 
     -- forced
     pub did-force : {xs″ rows″ : List ℕ} → IsPut f ii o t xs′ rows′ xs″ rows″ → Did (force o t) f ii h xs rows xs″ rows″ (reply.Displaced mask)
@@ -395,4 +276,4 @@ module _ {f : List ℕ} {ii h : ℕ} {xs rows : List ℕ} (b : Board f ii h xs r
         did-done b (force o t) (reply.Displaced mask) fine (ap (λ (m : ℕ). answered (displaced m)) (left-mask b c))
         (ap (startsOf (size (loopOf f))) (p .starts-are) ∙ starts-set (size (loopOf f)) xs′ o t
         ∙ ap₂ (λ (ys : Starts) (x : Option ℕ). set ys o x) (left-starts b c) (seat-some t (λ e. omega (arith, force-near, b .numbers .far))))
-        (put-board (left-board b c) force-inside (seat-none (getD xs′ o 65535) force-free) force-near force-fits p) (p .rest ∙ c .rest)
+        force-inside (c .board .sane) p (c .rest)

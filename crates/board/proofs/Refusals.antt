@@ -21,7 +21,8 @@ use Rattle.reservation.specs.Seats.{seatOf, seats}
 use Rattle.reservation.proofs.Seats.{seat-none, seat-some}
 use Rattle.reservation.proofs.Placings.{legal-digits, free-conflict, conflict-free}
 use Rattle.board.specs.Board.{setupAs, bare, Board}
-use Rattle.board.proofs.Readings.{starts-at, seats-are}
+use Rattle.board.proofs.Readings.{starts-at}
+use Rattle.board.proofs.Boards.{same-seats}
 
 -- ---- an operation, and its start
 
@@ -105,8 +106,8 @@ blank-nowhere n = fun-ext (λ o. ap seatOf (getD-filled n o 65535))
 
 module _ (f : List ℕ) (ii h : ℕ) (xs rows : List ℕ) (b : Board f ii h xs rows) (o t : ℕ) where
   -- the model's placing is the array's
-  pub same-seats : placedIn (bare f xs .starts) ≡ seats xs
-  same-seats = seats-are (size (loopOf f)) xs (omega (arith, accepted-ok f (b .accepted) .few, b .sane .whole)) (b .sane .blank)
+  same : placedIn (bare f xs .starts) ≡ seats xs
+  same = same-seats f xs (b .accepted) (b .sane .whole) (b .sane .blank)
 
   -- the checks after the common ones
   abbrev later : List Check
@@ -123,14 +124,14 @@ module _ (f : List ℕ) (ii h : ℕ) (xs rows : List ℕ) (b : Board f ii h xs r
     -- by a broken dependence
     pub place-broken : (e : ℕ) → firstBreach (loopOf f) ii (seats xs) o t ≡ some e
         → firstRefusal (checks (setupAs f ii h) (place o t) (bare f xs)) ≡ some (record { number = 16; detail = e })
-    place-broken e q = refusal-append (common f h o t xs) later known ∙ found-refused 16 _ e _ (ap (λ (g : Placing). firstBreach (loopOf f) ii g o t) same-seats ∙ q)
+    place-broken e q = refusal-append (common f h o t xs) later known ∙ found-refused 16 _ e _ (ap (λ (g : Placing). firstBreach (loopOf f) ii g o t) same ∙ q)
 
     module _ (held : firstBreach (loopOf f) ii (seats xs) o t ≡ none) where
       -- the conflicts decide
       place-held : firstRefusal (checks (setupAs f ii h) (place o t) (bare f xs)) ≡ firstRefusal (check (conflicts (loopOf f) ii (seats xs) o t) 17 0 ∷ [])
       place-held =
-          refusal-append (common f h o t xs) later known ∙ found-passed 16 _ _ (ap (λ (g : Placing). firstBreach (loopOf f) ii g o t) same-seats ∙ held)
-          ∙ ap (λ (g : Placing). firstRefusal (check (conflicts (loopOf f) ii g o t) 17 0 ∷ [])) same-seats
+          refusal-append (common f h o t xs) later known ∙ found-passed 16 _ _ (ap (λ (g : Placing). firstBreach (loopOf f) ii g o t) same ∙ held)
+          ∙ ap (λ (g : Placing). firstRefusal (check (conflicts (loopOf f) ii g o t) 17 0 ∷ [])) same
 
       -- nothing is taken
       pub place-fine : firstMet rowBase ii rows t (opAt (loopOf f) o .uses) ≡ none → firstRefusal (checks (setupAs f ii h) (place o t) (bare f xs)) ≡ none

@@ -21,7 +21,7 @@ use Rattle.reservation.specs.Seats.{seats}
 use Rattle.reservation.proofs.Seats.{seat-none}
 use Rattle.board.specs.Board.{Sane, Board, IsPut}
 use Rattle.board.specs.Moves.{Thinned, Agrees, Restored}
-use Rattle.board.proofs.Boards.{Fewer, sane-near, put-seats, part-seats, board-inside, put-board, lift-board}
+use Rattle.board.proofs.Boards.{Fewer, sane-near, put-seats, part-seats, board-inside, part-board, lift-board}
 
 -- ---- taking out
 
@@ -165,7 +165,7 @@ module _ {f : List ℕ} {ii p : ℕ} {wanted rows₀ xs rows : List ℕ} (t : Fi
     -- and with it put in its turn is over
     pub fill-put : {xs′ rows′ : List ℕ} → IsPut f ii p x xs rows xs′ rows′ → Filled f ii (p + 1) wanted rows₀ xs′ rows′
     fill-put {xs′} i = record {
-      board = put-board (t .board) inside fill-open fill-near fill-fits i;
+      board = part-board (t .board) s fill-fewer i;
       agrees = rw (i .starts-are) (record { done = λ q l. go q l (ℕ-discrete q p); to-do = fill-fewer });
       rest = i .rest ∙ t .rest;
     }

@@ -7,12 +7,13 @@ use Prim.Native.Nat.{ℕ, zero, suc, _+_, _*_, _≤_, _<_}
 use native.Mathlib.Nat.{mul-le-mul-right}
 use native.Mathlib.Decide.{ℕ-discrete}
 use native.Mathlib.Omega.{arith}
+use lib.Dec.{eqb}
 use lib.ListN.{length}
 use borrow.Author.Tests.{eq-eqb, ne-eqb, leb-true, le-leb, not-true, not-false}
 use Rattle.model.specs.Lists.{upFrom, pairs, anyOf}
 use Rattle.model.specs.Integers.{plus, minus}
 use Rattle.model.specs.Loop.{Dep, Loop, size, depAt, noDep}
-use Rattle.model.specs.Legality.{Placing, placed, holds, brokenAt, broken, meets, pairConflict, apart, placeAt, breaks, conflicts, fitsAt}
+use Rattle.model.specs.Legality.{Placing, placed, holds, brokenAt, broken, meets, pairConflict, apart, placeAt, touches, breaks, conflicts, fitsAt}
 use Rattle.model.proofs.Lists.{false-not, and-right, any-at, at-any, any-or, any-places, any-pairs, pairs-any}
 use Rattle.model.proofs.Signed.{holds-parts}
 
@@ -76,15 +77,6 @@ placed-part xs ys = record { same = go xs }
 
 -- ---- one operation more
 
-module _ (f : Placing) (o t : ℕ) where
-  -- it is placed at t
-  pub place-same : placeAt f o t o ≡ some t
-  place-same = rw (eq-eqb o o refl)
-
-  -- and every other one is as it was
-  pub place-other : (p : ℕ) → (p ≡ o → ⊥) → placeAt f o t p ≡ f p
-  place-other p n = rw (ne-eqb p o n)
-
 -- a placing with one operation more breaks what it broke, and what the operation breaks
 broken-place : (ii : ℕ) (f : Placing) (o t : ℕ) → f o ≡ none → (d : Dep) → broken ii (placeAt f o t) d ≡ (broken ii f d || breaks ii f o t d)
 broken-place ii f o t open-yet d = pick (ℕ-discrete (d .src) o) (ℕ-discrete (d .dst) o)
@@ -108,6 +100,20 @@ meets-place l ii f o t open-yet =
     neither : (a b : Bool) → not (a || b) ≡ (not a && not b)
     neither true b = refl
     neither false b = refl
+
+-- of a dependence between p and o only the start of p counts
+pub breaks-same : (ii : ℕ) (g k : Placing) (o t p : ℕ) → g p ≡ k p → (p ≡ o → ⊥) → (d : Dep) → (touches p d && breaks ii g o t d) ≡ (touches p d && breaks ii k o t d)
+breaks-same ii g k o t p same other d = pick (ℕ-discrete (d .src) p) (ℕ-discrete (d .dst) p) (ℕ-discrete (d .src) o) (ℕ-discrete (d .dst) o)
+  where
+    at : (x : ℕ) → x ≡ p → (g x ≡ k x) × (eqb x o ≡ false)
+    at x e = (ap g e ∙ same ∙ ap k (sym e), ne-eqb x o (λ q. other (sym e ∙ q)))
+
+    pick : Dec (d .src ≡ p) → Dec (d .dst ≡ p) → Dec (d .src ≡ o) → Dec (d .dst ≡ o) → (touches p d && breaks ii g o t d) ≡ (touches p d && breaks ii k o t d)
+    pick (yes a) b c (yes e) = rw (at (d .src) a .1, at (d .src) a .0, eq-eqb (d .dst) o e)
+    pick (yes a) b c (no e) = rw (at (d .src) a .1, ne-eqb (d .dst) o e)
+    pick (no a) (yes b) (yes c) e = rw (at (d .dst) b .1, at (d .dst) b .0, eq-eqb (d .src) o c)
+    pick (no a) (yes b) (no c) e = rw (at (d .dst) b .1, ne-eqb (d .src) o c)
+    pick (no a) (no b) c e = rw (ne-eqb (d .src) p a, ne-eqb (d .dst) p b)
 
 -- ---- a longer interval
 

@@ -20,5 +20,6 @@ pub mod Bounds
 pub mod Answers
 pub mod Verifier
 pub mod Session
+pub mod Good
 pub mod Undo
 pub mod Cases

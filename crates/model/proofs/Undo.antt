@@ -1,25 +1,26 @@
 -- Laws of lists of calls: what checkpoints keep, and the placed operations placed again in any order. Assumes nothing.
-use mathlib.Core.Path.{_≡_, refl, sym, ap, _∙_, subst, fun-ext}
+use mathlib.Core.Path.{_≡_, refl, sym, ap, _∙_, subst}
 use mathlib.Core.Bool.{Bool, true, false, not, cond}
 use mathlib.Core.List.{List, [], _∷_, _++_}
 use mathlib.Core.Option.{Option, none, some}
 use Prim.Native.Nat.{ℕ, _+_, _-_, _≤_, _<_}
 use native.Mathlib.Decide.{ℕ-discrete, decLt}
 use native.Mathlib.Omega.{arith}
-use borrow.Author.Tests.{lt-leb, not-true, eq-eqb, ne-eqb, eqb-true, eqb-false}
-use lib.Dec.{eqb}
+use borrow.Author.Tests.{le-leb, lt-leb, not-true, eq-eqb, ne-eqb, eqb-true, eqb-false}
+use lib.Dec.{eqb, leb}
 use lib.ListN.{length, getD, set, take, replicate, length-append, length-take, length-set, length-replicate, List·getD-append, List·getD-eq-default}
 use lib.Seq.{getD-set-same, getD-set-other, getD-take, take-take, take-append-le, ext-getD}
 use Rattle.model.specs.Refusals.{Refusal, firstRefusal, Answer, answered, settled}
 use Rattle.model.specs.Loop.{size, LoopOk}
-use Rattle.model.specs.Legality.{Placing, legalAt, placeAt, firstBreach, conflicts, fitsAt}
+use Rattle.model.specs.Legality.{legalAt, placeAt, firstBreach, conflicts, fitsAt}
 use Rattle.model.specs.Table.{rowBase, tableOf}
-use Rattle.model.specs.Session.{Setup, Starts, State, start, placedIn, stateTable, Call, place, force, remove, checkpoint, release, rollback, Reply, done, numbered, isPlaced, nowhere, checks, effect, stepAs, step, after, replies}
+use Rattle.model.specs.Session.{Setup, Starts, State, start, placedIn, stateTable, Call, place, force, remove, checkpoint, release, rollback, Reply, done, numbered, isPlaced, checks, effect, stepAs, step, after, replies}
 use Rattle.model.specs.Undo.{gives, NoneGives, markedBy, startOr, placings, times, OrderOf, AllDone}
 use Rattle.model.proofs.Lists.{getD-filled, and-left, and-right, first-none}
-use Rattle.model.proofs.Legality.{fits-tests, fits-conflict, Part}
+use Rattle.model.proofs.Legality.{fits-tests, fits-conflict}
 use Rattle.model.proofs.Counts.{legal-part, legal-place}
 use Rattle.model.proofs.Table.{table-nil-all, cells-nothing}
+use Rattle.model.proofs.Good.{Good, left-part, placed-set}
 use Rattle.model.proofs.Session.{step-done, rollback-done, state-same, marked, wentBack, back-newest}
 
 -- ---- back to a checkpoint
@@ -124,23 +125,11 @@ back-whole u m cs ds st e h high =
 
 -- ---- a session just opened
 
--- nothing is placed
-pub start-nowhere : (n : ℕ) → placedIn (replicate n none) ≡ nowhere
-start-nowhere n = fun-ext (λ o. getD-filled n o none)
-
--- so its table is zeros
+-- nothing is placed, so its table is zeros
 pub start-table : (u : Setup) → stateTable u (start u) ≡ replicate (u .ii) 0
 start-table u = ap (tableOf rowBase (u .ii)) (cells-nothing (u .loop) (u .ii) _ (λ o. getD-filled (size (u .loop)) o none)) ∙ table-nil-all 2 (u .ii)
 
 -- ---- an operation that is placed
-
--- a list with the start t put in place o says its placing with o at t
-pub placed-set : (ys : Starts) (o t : ℕ) → o < length ys → placedIn (set ys o (some t)) ≡ placeAt (placedIn ys) o t
-placed-set ys o t l = fun-ext (λ p. go p (ℕ-discrete p o))
-  where
-    go : (p : ℕ) → Dec (p ≡ o) → placedIn (set ys o (some t)) p ≡ placeAt (placedIn ys) o t p
-    go p (yes e) = rw (e, getD-set-same ys o (some t) none l, eq-eqb o o refl)
-    go p (no n) = rw (getD-set-other ys o p (some t) none n, ne-eqb p o n)
 
 -- an operation that is not placed and fits below the horizon is placed
 pub place-done : (u : Setup) (st : State) (o t : ℕ) → o < size (u .loop) → getD (st .starts) o none ≡ none → t < u .horizon
@@ -155,17 +144,11 @@ place-done u st o t inside free near fits =
 
 -- ---- the placed operations, placed again
 
--- starts that a session can come to
-pub record Good (u : Setup) (xs : Starts) : Type 0 where
-  pub whole : length xs ≡ size (u .loop)
-  pub near : (o t : ℕ) → getD xs o none ≡ some t → t < u .horizon
-  pub fine : legalAt (u .loop) (u .ii) (placedIn xs) ≡ true
-
 -- the operations os are left: each stands there once and is placed in xs, and ys has the others as xs does
 record Left (xs : Starts) (os : List ℕ) (ys : Starts) : Type 0 where
   whole : length ys ≡ length xs
   once : (o : ℕ) → times o os ≤ cond (isPlaced (getD xs o none)) 1 0
-  at : (o : ℕ) → getD ys o none ≡ cond (eqb (times o os) 0) (getD xs o none) none
+  at : (o : ℕ) → getD ys o none ≡ cond (leb 1 (times o os)) none (getD xs o none)
 
 -- how often an operation stands in a list with one more in front
 times-same : (o : ℕ) (os : List ℕ) → times o (o ∷ os) ≡ 1 + times o os
@@ -202,8 +185,7 @@ module _ (u : Setup) (ok : LoopOk (u .loop)) (pos : 1 ≤ u .ii) (xs : Starts) (
 
     -- that is not yet placed
     head-free : getD ys o none ≡ none
-    head-free =
-        h .at o ∙ ap (λ (b : Bool). cond b (getD xs o none) none) (ne-eqb (times o (o ∷ os)) 0 (λ e. omega (arith, times-same o os)))
+    head-free = h .at o ∙ rw (le-leb 1 (times o (o ∷ os)) (omega (arith, times-same o os)))
 
     -- with it placed, the others are left
     left-next : Left xs os (set ys o (some (startOr (getD xs o none))))
@@ -217,19 +199,11 @@ module _ (u : Setup) (ok : LoopOk (u .loop)) (pos : 1 ≤ u .ii) (xs : Starts) (
         below p (yes e) = rw e (omega (arith, head-is .1))
         below p (no n) = omega (arith, h .once p, times-other o p os n)
 
-        go : (p : ℕ) → Dec (p ≡ o) → getD (set ys o (some (startOr (getD xs o none)))) p none ≡ cond (eqb (times p os) 0) (getD xs p none) none
+        go : (p : ℕ) → Dec (p ≡ o) → getD (set ys o (some (startOr (getD xs o none)))) p none ≡ cond (leb 1 (times p os)) none (getD xs p none)
         go p (yes e) = rw (e, getD-set-same ys o (some (startOr (getD xs o none))) none head-inside, head-is .1) (sym (head-is .0))
         go p (no n) = getD-set-other ys o p (some (startOr (getD xs o none))) none n ∙ h .at p ∙ rw (times-other o p os n)
 
-  -- what is placed is a part
-  left-part : (os : List ℕ) (ys : Starts) → Left xs os ys → Part (placedIn ys) (placedIn xs)
-  left-part os ys h = record { same = λ o t e. go o t (eqb (times o os) 0) (sym (h .at o) ∙ e) }
-    where
-      go : (o t : ℕ) (b : Bool) → cond b (getD xs o none) none ≡ some t → getD xs o none ≡ some t
-      go o t true e = e
-      go o t false e = let z : _≡_ {A = ℕ} 0 1 = cc in absurd (omega arith)
-
-  -- so the next one fits, and is placed
+  -- what is placed is a part, so the next one fits, and is placed
   next-done : (o : ℕ) (os : List ℕ) (st : State) → Left xs (o ∷ os) (st .starts)
       → step u (place o (startOr (getD xs o none))) st
       ≡ (record { starts = set (st .starts) o (some (startOr (getD xs o none))); checkpoints = st .checkpoints }, answered done)
@@ -239,7 +213,7 @@ module _ (u : Setup) (ok : LoopOk (u .loop)) (pos : 1 ≤ u .ii) (xs : Starts) (
       let inside : o < size (u .loop) = omega (arith, good .whole, h .whole, head-inside o os ys h) in
       let legal : legalAt (u .loop) (u .ii) (placeAt (placedIn ys) o t) ≡ true =
       ap (legalAt (u .loop) (u .ii)) (sym (placed-set ys o t (head-inside o os ys h)))
-      ∙ legal-part (u .loop) (u .ii) ok pos _ (placedIn xs) (left-part os _ (left-next o os ys h)) (good .fine) in
+      ∙ legal-part (u .loop) (u .ii) ok pos _ (placedIn xs) (left-part (set ys o (some t)) xs (λ p. leb 1 (times p os)) (left-next o os ys h .at)) (good .fine) in
       place-done u st o t inside (head-free o os ys h) (good .near o t (head-is o os ys h .0))
       (and-right (legalAt (u .loop) (u .ii) (placedIn ys)) _ (sym (legal-place (u .loop) (u .ii) ok pos (placedIn ys) o t inside (head-free o os ys h)) ∙ legal))
 
@@ -260,9 +234,9 @@ module _ (u : Setup) (ok : LoopOk (u .loop)) (pos : 1 ≤ u .ii) (xs : Starts) (
   replay os h = replay-from os (start u) (record {
     whole = length-replicate (size (u .loop)) none ∙ sym (good .whole);
     once = λ o. omega (arith, h o);
-    at = λ o. ap (λ (f : Placing). f o) (start-nowhere (size (u .loop))) ∙ first (getD xs o none) ∙ ap (λ (n : ℕ). cond (eqb n 0) (getD xs o none) none) (sym (h o));
+    at = λ o. getD-filled (size (u .loop)) o none ∙ first (getD xs o none) ∙ ap (λ (n : ℕ). cond (leb 1 n) none (getD xs o none)) (sym (h o));
   })
     where
-      first : (x : Option ℕ) → none ≡ cond (eqb (cond (isPlaced x) 1 0) 0) x none
+      first : (x : Option ℕ) → none ≡ cond (leb 1 (cond (isPlaced x) 1 0)) none x
       first none = refl
       first (some t) = refl

@@ -12,8 +12,6 @@ use lib.ListN.{length, getD, set, drop, length-set, length-append, drop-of-lengt
 use lib.Seq.{drop-cons, set-at, ext-getD, append-snoc}
 use Rattle.model.specs.Lists.{upFrom}
 use Rattle.model.specs.Refusals.{Answer, answered, refused}
-use Rattle.model.specs.Loop.{size}
-use Rattle.model.specs.File.{loopOf}
 use Rattle.model.specs.Legality.{Placing}
 use Rattle.model.specs.Session.{placedIn}
 use Rattle.model.specs.Session as model
@@ -21,8 +19,7 @@ use Rattle.model.proofs.Lists.{length-tabulate, getD-tabulate}
 use Rattle.session.specs.View.{fileOf, stateOf, Valid}
 use Rattle.session.specs.declared.Session.{Session}
 use Rattle.board.specs.declared.Reply.{Reply}
-use Rattle.board.proofs.Boards.{few-operations}
-use Rattle.board.proofs.Readings.{seats-are}
+use Rattle.board.proofs.Boards.{same-seats}
 use Rattle.reservation.specs.Seats.{seatOf, seats}
 use Rattle.replay.specs.Words.{written}
 use Rattle.replay.specs.Replay.{replyWords, allWords, startWord, startWords}
@@ -99,10 +96,8 @@ pub starts-told : {s : Session} {rows : List ℕ} → Valid s rows → s .starts
 unfolding startWords
 starts-told {s} v =
     let xs : List ℕ = s .starts .at in
-    let n : ℕ = size (loopOf (fileOf s)) in
-    let room : n ≤ length xs = omega (arith, few-operations (fileOf s) (v .board .accepted), v .board .sane .whole) in
-    let same : placedIn (stateOf s .starts) ≡ seats xs = seats-are n xs room (v .board .sane .blank) in
     let whole = v .board .sane .whole in
+    let same : placedIn (stateOf s .starts) ≡ seats xs = same-seats (fileOf s) xs (v .board .accepted) whole (v .board .sane .blank) in
     ext-getD 65535 xs (map (λ o. startWord (placedIn (stateOf s .starts) o)) (upFrom 0 64)) (whole ∙ sym (length-tabulate (λ o. startWord (placedIn (stateOf s .starts) o)) 0 64)) (λ i l.
     sym (word-seat (getD xs i 65535)) ∙ ap (λ (f : Placing). startWord (f i)) (sym same) ∙ ap (λ (k : ℕ). startWord (placedIn (stateOf s .starts) k)) (omega arith)
     ∙ sym (getD-tabulate (λ o. startWord (placedIn (stateOf s .starts) o)) 0 64 i 65535 (omega (arith, whole))))

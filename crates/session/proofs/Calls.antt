@@ -8,9 +8,8 @@ use native.Mathlib.Omega.{arith}
 use lib.ListN.{length, getD, take, drop, length-map, length-append, length-drop}
 use lib.Seq.{length-take-le, take-at, drop-at}
 use Rattle.model.specs.Refusals.{Refusal, firstRefusal, Answer, answered, settled}
-use Rattle.model.specs.Loop.{size, LoopOk}
+use Rattle.model.specs.Loop.{LoopOk}
 use Rattle.model.specs.File.{loopOf}
-use Rattle.model.specs.Legality.{Placing, legalAt}
 use Rattle.model.specs.Table.{rowBase, coveredAt, digitOf}
 use Rattle.model.specs.Session.{Setup, State, Call, checkpoint, rollback, done, numbered, placedIn, stateTable, openChecks, openFile, openRows, start, step, after, replies}
 use Rattle.model.specs.Session as model
@@ -18,7 +17,8 @@ use Rattle.model.specs.Undo.{NoneGives, markedBy, placings, OrderOf, AllDone}
 use Rattle.model.proofs.File.{accepted-ok}
 use Rattle.model.proofs.Table.{length-table, bit-covered}
 use Rattle.model.proofs.Table.{bits-end as table-end}
-use Rattle.model.proofs.Undo.{back-to, back-pure, start-table, Good, replay}
+use Rattle.model.proofs.Undo.{back-to, back-pure, start-table, replay}
+use Rattle.model.proofs.Good.{Good, good-run}
 use Rattle.reservation.specs.Seats.{seats}
 use Rattle.reservation.proofs.Placings.{legal-digits}
 use Rattle.board.specs.Board.{setupAs}
@@ -28,8 +28,7 @@ use Rattle.session.specs.Undo.{Run, stop, next, Demand3}
 use Rattle.session.specs.declared.Session.{Session}
 use Rattle.board.specs.declared.Reply.{Reply}
 use Rattle.refusals.specs.declared.Checked.the-variants as checked
-use Rattle.board.proofs.Readings.{starts-length, seats-are}
-use Rattle.board.proofs.Boards.{few-operations}
+use Rattle.board.proofs.Boards.{same-seats}
 
 -- ---- a session by the model
 
@@ -129,9 +128,7 @@ from-open {f} {ii} {h} {rows₀} {s} o =
 
 -- the placing that the model reads off a session is that of its array
 valid-placed : {s : Session} {rows : List ℕ} → Valid s rows → placedIn (stateOf s .starts) ≡ seats (s .starts .at)
-valid-placed {s} v =
-    let n : ℕ = size (loopOf (fileOf s)) in
-    seats-are n (s .starts .at) (omega (arith, few-operations (fileOf s) (v .board .accepted), v .board .sane .whole)) (v .board .sane .blank)
+valid-placed {s} v = same-seats (fileOf s) (s .starts .at) (v .board .accepted) (v .board .sane .whole) (v .board .sane .blank)
 
 -- what the bits of its rows say, with setup u
 abbrev BitsAre : Setup → Session → List ℕ → Type 0
@@ -146,18 +143,6 @@ valid-bits {s} {rows} v =
       λ slot row m lo hi. rw (valid-placed v) (bit-covered l (s .interval) (seats (s .starts .at)) rows (v .board .held) d slot row m lo hi),
       table-end (s .interval) _ rows (v .board .held) d,
     )
-
--- the starts of a session that calls take can be placed again
-valid-good : {s : Session} {rows : List ℕ} → Valid s rows → Good (setupOf s) (stateOf s .starts)
-valid-good {s} v =
-    let n : ℕ = size (loopOf (fileOf s)) in
-    let room : n ≤ length (s .starts .at) = omega (arith, few-operations (fileOf s) (v .board .accepted), v .board .sane .whole) in
-    let same = valid-placed v in
-    record {
-      whole = starts-length n (s .starts .at) room;
-      near = λ o t e. v .board .sane .near o t (sym (ap (λ (f : Placing). f o) same) ∙ e);
-      fine = ap (legalAt (loopOf (fileOf s)) (s .interval)) same ∙ v .board .sane .fine;
-    }
 
 -- rolling back to a checkpoint m since which no call answered m gives the very state and rows of then
 very-back : {s s₁ s₂ s′ : Session} {rows rows₁ rows₂ rows′ : List ℕ} {r₁ r : Reply} {cs₂ : List Call} {rs₂ : List (Answer model.Reply)} (m : ℕ)
@@ -186,13 +171,14 @@ went-back {u} {rest} m cs a low high t =
     )
 
 -- its placed operations, placed in any order on a session that was opened alike, are accepted and give its starts and its rows
-placed-again : {u : Setup} {st : State} {rest rest₁ : List ℕ} {s s₁ s₂ : Session} {rows rows₁ rows₂ : List ℕ} {rs₂ : List (Answer model.Reply)} (os : List ℕ)
-    → Stands u st rest s rows → OrderOf (stateOf s .starts) os → Stands u (start u) rest₁ s₁ rows₁ → Run s₁ rows₁ (placings (stateOf s .starts) os) rs₂ s₂ rows₂
+placed-again : {u : Setup} {rest rest₁ : List ℕ} {s s₁ s₂ : Session} {rows rows₁ rows₂ : List ℕ} {rs₂ : List (Answer model.Reply)} (cs : List Call) (os : List ℕ)
+    → Stands u (after u cs (start u)) rest s rows → OrderOf (stateOf s .starts) os → Stands u (start u) rest₁ s₁ rows₁
+    → Run s₁ rows₁ (placings (stateOf s .starts) os) rs₂ s₂ rows₂
     → AllDone rs₂ × (stateOf s₂ .starts ≡ stateOf s .starts) × (take (u .ii) rows₂ ≡ take (u .ii) rows)
-placed-again {u} {s} os a q o r =
-    let ok = subst (λ (v : Setup). LoopOk (v .loop)) (a .setup) (accepted-ok (fileOf s) (a .valid .board .accepted)) in
-    let pos = subst (λ (v : Setup). 1 ≤ v .ii) (a .setup) (a .valid .board .numbers .some) in
-    let w = replay u ok pos (stateOf s .starts) (subst (λ (v : Setup). Good v (stateOf s .starts)) (a .setup) (valid-good (a .valid))) os q in
+placed-again {u} {s = s} cs os a q o r =
+    let ok : LoopOk (u .loop) = rw (← a .setup) (accepted-ok (fileOf s) (a .valid .board .accepted)) in
+    let pos : 1 ≤ u .ii = rw (← a .setup) (a .valid .board .numbers .some) in
+    let w = replay u ok pos (stateOf s .starts) (subst (λ (x : State). Good u (x .starts)) (sym (a .state)) (good-run u ok pos cs .now)) os q in
     let b = ran o r in (
       subst AllDone (sym (b .0)) (w .0),
       ap (λ (x : State). x .starts) (b .1 .state ∙ w .1),
@@ -214,5 +200,5 @@ demand3 f ii h rows₀ rows₁ rows s₁ s cs rs o r =
       valid = a .1 .valid;
       back = λ m. went-back m cs (a .1);
       very = λ m. very-back m;
-      again = λ os q o₁. placed-again os (a .1) q (from-open o₁);
+      again = λ os q o₁. placed-again cs os (a .1) q (from-open o₁);
     }

@@ -29,8 +29,7 @@ use Rattle.session.specs.declared.OpStarts as starts
 use Rattle.session.specs.declared.Session.{Session}
 use Rattle.board.specs.declared.Reply as declared
 use Rattle.board.specs.declared.Reply.the-variants as reply
-use Rattle.board.proofs.Readings.{seats-are}
-use Rattle.board.proofs.Boards.{few-operations}
+use Rattle.board.proofs.Boards.{same-seats}
 use Rattle.board.proofs.Effects.{done-kept}
 
 -- ---- rows
@@ -42,7 +41,7 @@ board-rows {f} {ii} {xs = xs} {rows′} rows b e =
     sym (take-append-drop ii rows′)
     ∙ ap₂ (λ (a c : List ℕ). a ++ c)
     (table-take 2 ii (cellsOf (loopOf f) ii (seats xs)) rows′ (b .held)
-    ∙ ap (λ (g : Placing). tableAt (loopOf f) ii g) (sym (seats-are (size (loopOf f)) xs (omega (arith, few-operations f (b .accepted), b .sane .whole)) (b .sane .blank))))
+    ∙ ap (λ (g : Placing). tableAt (loopOf f) ii g) (sym (same-seats f xs (b .accepted) (b .sane .whole) (b .sane .blank))))
     e
 
 -- ---- calls that leave the checkpoints alone
