@@ -3,6 +3,8 @@
 mod recurrence;
 mod resource;
 
+ghost use mathlib.Core.Path.{_≡_};
+ghost use Prim.Native.Nat.{max};
 ghost use Rattle.model.specs.File.{loopOf, Accepted};
 ghost use Rattle.model.specs.Bounds.{LowerIs};
 ghost use Rattle.lower_bounds.specs.Answer.{boundsOf};
@@ -23,4 +25,14 @@ pub fn lower(file: &[u8]) -> LowerBounds
         return LowerBounds::Refused(8, 0);
     }
     LowerBounds::Found(resource::resource(file), least)
+}
+
+// The larger of two bounds.
+pub fn larger(a: usize, b: usize) -> usize
+    ensures { λ r. ⌜ r ≡ max a b ⌝ }
+{
+    if a < b {
+        return b;
+    }
+    a
 }

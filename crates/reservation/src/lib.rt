@@ -3,6 +3,7 @@
 pub mod cells;
 pub mod clear;
 pub mod deps;
+pub mod memory;
 pub mod pairs;
 pub mod test;
 

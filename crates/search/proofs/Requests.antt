@@ -19,11 +19,10 @@ use Rattle.loop_file.proofs.Answers.{IsAccepted, read-refused}
 use Rattle.lower_bounds.specs.Answer.{boundsOf}
 use Rattle.lower_bounds.specs.declared.LowerBounds.{LowerBounds}
 use Rattle.lower_bounds.specs.declared.LowerBounds.the-variants as lower
-use Rattle.refusals.specs.Checked.{refusalOf}
+use Rattle.refusals.specs.Checked.{refusalOf, AskedIs}
 use Rattle.refusals.specs.declared.Checked.{Checked}
 use Rattle.refusals.specs.declared.Checked.the-variants as checked
 use Rattle.loop_file.specs.Read.{asUnread}
-use Rattle.search.specs.Request.{AskedIs}
 use Rattle.search.specs.Answer.{asRefused, asUnbounded, Searches, Passed, Attempted}
 use Rattle.search.specs.declared.Searched.{Searched}
 

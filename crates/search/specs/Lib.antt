@@ -1,4 +1,3 @@
 pub mod Answer
 pub mod Demand2
-pub mod Request
 pub mod Sweep

@@ -1,25 +1,15 @@
 // The search of a file that has passed every check. Internal: asks for that.
 use crate::Searched;
 use crate::Solution;
-use crate::memory::write_list;
 use crate::sweep::Swept;
 use crate::sweep::sweep;
+use lower_bounds::larger;
 use reservation::clear::clear_rows;
+use reservation::memory::write_list;
 use stages::stage_count;
 ghost use mathlib.Core.Path.{_≡_};
-ghost use Prim.Native.Nat.{max};
 ghost use Rattle.search.specs.Answer.{Passed, Attempted};
 ghost use Rattle.search.specs.Sweep.{keptOf};
-
-// The larger of two bounds.
-fn larger(a: usize, b: usize) -> usize
-    ensures { λ r. ⌜ r ≡ max a b ⌝ }
-{
-    if a < b {
-        return b;
-    }
-    a
-}
 
 // How many starts the caller's list gets: one for each operation where a list is found, else none.
 fn kept(s: Swept, n: usize) -> usize

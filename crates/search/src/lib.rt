@@ -1,7 +1,5 @@
 // The search for a schedule (document 01), and what a schedule says of each operation.
 mod attempt;
-mod memory;
-mod request;
 mod sweep;
 
 use loop_file::Reading;
@@ -41,7 +39,7 @@ pub fn search(
     let Reading::Accepted(n, _, _) = reading else {
         return refused(loop_file::unread(reading));
     };
-    let asked = request::first_refusal(n, cap, horizon, budget, list.len(), rows.len());
+    let asked = refusals::request(n, cap, horizon, budget, list.len(), rows.len());
     let Checked::Fine = asked else {
         return refused(asked);
     };

@@ -38,8 +38,8 @@ start c = c .before .before .before .before .before .before .before
 known : (c : tie.After-known-told) → let t = c .before .reading .given .0 in IsAccepted (start c .args .file .now) (t .0) (t .1 .0) (t .1 .1 .0)
 known c = read-accepted _ _ _ _ (sym (ap readingOf (c .before .reading .given .1)) ∙ c .before .before .before .read .ensures)
 
-first-refusal-requires : tie.Need-first-refusal-requires
-first-refusal-requires c κs = omega arith
+request-requires : tie.Need-request-requires
+request-requires c κs = omega arith
 
 enum-told-2 : tie.Need-enum-told-2
 enum-told-2 c = omega arith
@@ -51,7 +51,7 @@ refused-requires-2 : tie.Need-refused-requires-2
 refused-requires-2 c κs = omega arith
 
 returns-2 : tie.Need-returns-2
-returns-2 c = let a = c .before .before .before in by-request (known (a .before)) (a .first-refusal .ensures) (c .before .enum-told3 .given .1) (c .refused2 .ensures)
+returns-2 c = let a = c .before .before .before in by-request (known (a .before)) (a .request .ensures) (c .before .enum-told3 .given .1) (c .refused2 .ensures)
 
 -- ---- once the request passes
 
@@ -59,7 +59,7 @@ returns-2 c = let a = c .before .before .before in by-request (known (a .before)
 fine : (c : tie.After-enum-told2) → let k = c .before .before .before in
     let g = start k .args in
     Passes (g .file .now) (k .before .reading .given .0 .0) (g .cap) (g .horizon) (g .budget) (g .list .now) (g .rows .now)
-fine c = let a = c .before .before in all-pass (known (a .before)) (a .first-refusal .ensures) (c .enum-told2 .given .1)
+fine c = let a = c .before .before in all-pass (known (a .before)) (a .request .ensures) (c .enum-told2 .given .1)
 
 lower-requires : tie.Need-lower-requires
 lower-requires c κs = known (c .before .before .before) .file
@@ -107,7 +107,7 @@ search-spec =
     unread-requires
     refused-requires
     returns
-    first-refusal-requires
+    request-requires
     enum-told-2
     enum-told-3
     refused-requires-2

@@ -7,9 +7,9 @@ use native.Mathlib.Numerals.{add-one}
 use native.Mathlib.Omega.{arith}
 use lib.ListN.{length, take, drop, getD, set, length-set}
 use lib.Seq.{length-take-le, take-suc}
 use Rattle.reservation.proofs.Stores.{set-next}
-use Rattle.search.proofs.memory.write_list.Statement.{statement}
-use Rattle.search.proofs.memory.write_list.Tie as tie
+use Rattle.reservation.proofs.memory.write_list.Statement.{statement}
+use Rattle.reservation.proofs.memory.write_list.Tie as tie
 
 abbrev Inv-loop : tie.InvT-loop
 Inv-loop list₀ starts n i₀ list i = (i ≤ n) × (list ≡ take i starts ++ drop i list₀) × (length list ≡ length list₀)

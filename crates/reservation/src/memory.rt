@@ -1,4 +1,4 @@
-// What the search leaves in lent memory. Internal: asks that both lists are long enough.
+// Starts written to the caller's list. Internal: asks that both lists are long enough.
 ghost use mathlib.Core.Path.{_≡_};
 ghost use mathlib.Core.List.{_++_};
 ghost use Prim.Native.Nat.{_≤_};

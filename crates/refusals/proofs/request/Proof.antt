@@ -1,4 +1,4 @@
--- `request::first_refusal` meets its contract: check by check, a refusal is the whole table's, and else the rest decides. Assumes nothing.
+-- `request` meets its contract: check by check, a refusal is the whole table's, and else the rest decides. Assumes nothing.
 use mathlib.Core.Path.{_≡_, sym, _∙_}
 use mathlib.Core.List.{List, [], _∷_, _++_}
 use Prim.Native.Nat.{ℕ}
@@ -6,9 +6,9 @@ use native.Mathlib.Omega.{arith}
 use Rattle.model.specs.Refusals.{Check, range, lent, firstRefusal}
 use Rattle.model.specs.Loop.{Loop, size}
 use Rattle.model.specs.Search.{requestChecks, roomChecks}
 use Rattle.refusals.proofs.Tables.{refused-first, rest-decides}
-use Rattle.search.proofs.request.first_refusal.Statement.{statement}
-use Rattle.search.proofs.request.first_refusal.Tie as tie
+use Rattle.refusals.proofs.request.Statement.{statement}
+use Rattle.refusals.proofs.request.Tie as tie
 
 -- the table, for a loop of n operations, and what is left of it after each check
 module _ (s : tie.Start) where
@@ -137,8 +137,8 @@ returns-5 c l e =
     ∙ sym (budget-passes (k .before) ∙ rest-decides (lent (s .args .n) (s .args .list) ∷ []) (lent 4096 (s .args .rows) ∷ []) (k .lent .ensures) (t .enum-told7 .given .1))
     ∙ whole s l e
 
-pub first-refusal-spec : {M : Type 1} → statement M
-first-refusal-spec =
+pub request-spec : {M : Type 1} → statement M
+request-spec =
     tie.close
     (tie.spec
     range-requires
