@@ -46,7 +46,7 @@ module _ (l : Loop) (q : Request) where
   spent-first lo hi m = let e : hi - lo ≡ suc (hi - suc lo) = omega arith in rw e
 
   -- more intervals, no fewer probes
-  spent-more : (lo mid hi : ℕ) → mid ≤ hi → spentBelow l q lo mid ≤ spentBelow l q lo hi
+  pub spent-more : (lo mid hi : ℕ) → mid ≤ hi → spentBelow l q lo mid ≤ spentBelow l q lo hi
   unfolding spentBelow
   spent-more lo mid hi m =
       let e : hi - lo ≡ mid - lo + (hi - lo - (mid - lo)) = omega arith in
@@ -137,7 +137,7 @@ module _ (l : Loop) (ok : LoopOk l) (q : Request) (b : Lower) (is : LowerIs l (a
       pick (within c r i g) = let z : b ≡ record { resource = resourceBound l; recurrence = c } = cc in (c, r, ap larger z)
 
   -- no interval below the larger bound has a legal list
-  none-below : (jj : ℕ) → 1 ≤ jj → jj < larger b → NoneAt l q jj
+  pub none-below : (jj : ℕ) → 1 ≤ jj → jj < larger b → NoneAt l q jj
   none-below jj p m xs w = pick (legal l jj xs) refl
     where
       pick : (t : Bool) → legal l jj xs ≡ t → t ≡ false
