@@ -1,30 +1,33 @@
--- Laws of lists of starts and of the boards that they make with their rows: one operation put in, one taken out, and fewer operations. Assumes nothing.
+-- Laws of lists of starts and of the boards that they make with their rows: none placed, one operation put in, one taken out, and fewer operations. Assumes nothing.
 use mathlib.Core.Path.{_≡_, refl, sym, ap, _∙_, fun-ext}
 use mathlib.Core.Bool.{true}
-use mathlib.Core.List.{List}
+use mathlib.Core.List.{List, _++_}
 use mathlib.Core.Logic.{_⊎_, inl, inr}
-use mathlib.Core.Option.{none, some}
+use mathlib.Core.Option.{Option, none, some}
 use Prim.Native.Nat.{ℕ, _≤_, _<_}
 use native.Mathlib.Decide.{ℕ-discrete, decLt}
 use native.Mathlib.Omega.{arith}
 use borrow.Author.Tests.{eq-eqb, ne-eqb}
-use lib.ListN.{length, getD, set, drop, length-set, length-drop}
+use lib.ListN.{length, getD, set, drop, replicate, length-set, length-drop, length-replicate}
 use lib.Seq.{getD-set-same, getD-set-other, set-out}
 use Rattle.model.specs.Loop.{Loop, size, opAt, LoopOk}
 use Rattle.model.specs.File.{loopOf, Accepted}
 use Rattle.model.specs.Legality.{Placing, legalAt, placeAt, fitsAt}
 use Rattle.model.specs.Table.{rowBase, IsTable, cellsOf}
 use Rattle.model.specs.Session.{placedIn}
+use Rattle.model.proofs.Lists.{getD-filled}
 use Rattle.model.proofs.File.{accepted-ok}
 use Rattle.model.proofs.Legality.{fits-conflict, Part}
-use Rattle.model.proofs.Counts.{legal-part}
+use Rattle.model.proofs.Counts.{legal-part, legal-nothing}
+use Rattle.model.proofs.Table.{table-nil, cells-nothing}
 use Rattle.model.proofs.Good.{Good}
 use Rattle.reservation.specs.Rows.{overUses, withOne, lessOne, UsesIn}
 use Rattle.reservation.specs.Seats.{seatOf, seats}
 use Rattle.reservation.proofs.RowUpdates.{uses-rest}
 use Rattle.reservation.proofs.Placings.{legal-digits, reserve-place, reserve-uses, release-place, release-uses}
 use Rattle.reservation.proofs.Seats.{seat-some, seat-none}
-use Rattle.board.specs.Board.{startsOf, setupAs, Sane, Board, IsPut}
+use Rattle.reservation.proofs.Stores.{cleared, cleared-length}
+use Rattle.board.specs.Board.{startsOf, setupAs, Numbers, Sane, Board, IsPut}
 use Rattle.board.proofs.Readings.{starts-length, seats-are}
 
 -- ---- ranges
@@ -139,6 +142,28 @@ lift-fewer xs o p = go (ℕ-discrete p o) (decLt o (length xs))
     go (no d) l = inr (getD-set-other xs o p 65535 65535 d)
 
 -- ---- boards
+
+-- starts of which none is placed, with rows that were cleared
+pub empty-board : {f : List ℕ} {ii h : ℕ} {rows′ : List ℕ} (rows : List ℕ) → Accepted f → Numbers ii h → ii ≤ length rows → rows′ ≡ replicate ii 0 ++ drop ii rows
+    → Board f ii h (replicate 64 65535) rows′
+empty-board {f} {ii} {h} rows accepted numbers room clear = record {
+  accepted = accepted;
+  numbers = numbers;
+  sane = record {
+    whole = length-replicate {A = ℕ} 64 65535;
+    blank = λ o l. getD-filled 64 o 65535;
+    near = λ o t p. never t (sym (nowhere o) ∙ p);
+    fine = legal-nothing (loopOf f) ii (accepted-ok f accepted) (numbers .some) (seats (replicate 64 65535)) nowhere;
+  };
+  held = rw (cells-nothing (loopOf f) ii (seats (replicate 64 65535)) nowhere, clear)
+      (table-nil rowBase ii (replicate ii 0 ++ drop ii rows) (rw (cleared-length ii rows room) room) (λ r l. cleared ii rows r l));
+}
+  where
+    nowhere : (o : ℕ) → seats (replicate 64 65535) o ≡ none
+    nowhere o = ap seatOf (getD-filled 64 o 65535)
+
+    never : (t : ℕ) → _≡_ {A = Option ℕ} none (some t) → t < h
+    never t q = let y : _≡_ {A = ℕ} 0 1 = cc in absurd (omega arith)
 
 -- there is a place for each operation
 pub board-inside : {f : List ℕ} {ii h : ℕ} {xs rows : List ℕ} (o : ℕ) → Board f ii h xs rows → o < size (loopOf f) → o < length xs

@@ -1,9 +1,8 @@
 -- The marks of the operations that have a dependence with another one which that breaks: one dependence after the other. Assumes nothing.
 use mathlib.Core.Path.{_≡_, refl, sym, ap, ap₂, _∙_, fun-ext}
 use mathlib.Core.Bool.{Bool, true, false, _&&_, _||_, or-false, or-true, and-true, and-false}
-use mathlib.Core.List.{List, [], _∷_}
+use mathlib.Core.List.{List}
 use Prim.Native.Nat.{ℕ, _+_, _<_}
-use native.Mathlib.Nat.{zero-add}
 use native.Mathlib.Decide.{ℕ-discrete}
 use native.Mathlib.Omega.{arith}
 use borrow.Author.Tests.{eq-eqb, ne-eqb, eqb-true}
@@ -13,19 +12,12 @@ use lib.Seq.{getD-set-same, getD-set-other}
 use Rattle.model.specs.Lists.{upFrom, anyOf}
 use Rattle.model.specs.Loop.{Dep, Loop, size, depAt}
 use Rattle.model.specs.Legality.{Placing, broken, placeAt, touches, breaks}
-use Rattle.model.proofs.Lists.{and-left, upFrom-split, getD-filled, any-append}
+use Rattle.model.proofs.Lists.{and-left, getD-filled, any-next}
 use Rattle.model.proofs.Legality.{breaks-same}
 use Rattle.reservation.specs.Seats.{seats}
 use Rattle.board.specs.Moves.{hitBy, HitsAre}
 
 -- ---- whether an operation is hit
-
--- whether some number of a row passes, with one number more
-any-next : (p : ℕ → Bool) (n : ℕ) → anyOf p (upFrom 0 (n + 1)) ≡ (anyOf p (upFrom 0 n) || p n)
-unfolding anyOf upFrom
-any-next p n =
-    ap (anyOf p) (upFrom-split 0 n 1) ∙ any-append p (upFrom 0 n) ((0 + n) ∷ [])
-    ∙ ap (λ (b : Bool). anyOf p (upFrom 0 n) || b) (or-false (p (0 + n)) ∙ ap p (zero-add n))
 
 module _ (l : Loop) (ii : ℕ) (g : Placing) (o t : ℕ) where
   -- by no dependence

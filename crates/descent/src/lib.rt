@@ -2,7 +2,7 @@
 // use once and goes through its starts; `try_start` tests one start against the table, reserves, lets `choose` go on with the next operation, and releases. A start is
 // paid for before it is looked at, so what is left of the budget falls with every turn. Internal: each function asks for an accepted file and rows that hold the
 // operations placed so far.
-mod window;
+pub mod window;
 
 use crate::window::window_of;
 use loop_access::first_use;

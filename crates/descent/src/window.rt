@@ -18,7 +18,7 @@ pub struct Window {
 }
 
 // The first start of dependence e's target that it allows, with its source at `start`.
-fn earliest(file: &[u8], e: usize, start: usize, interval: usize) -> usize
+pub fn earliest(file: &[u8], e: usize, start: usize, interval: usize) -> usize
     requires { ⌜ Accepted (now file) × (e < length (loopOf (now file) .deps)) × (start < 4096) × (interval ≤ 4096) ⌝ }
     ensures { λ r. ⌜ EarliestIs (loopOf (now (file .entry))) interval e start r ⌝ }
 {

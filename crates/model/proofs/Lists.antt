@@ -1,6 +1,6 @@
 -- Laws of the model's list functions. Assumes nothing.
 use mathlib.Core.Path.{_≡_, refl, sym, ap, ap₂, _∙_}
-use mathlib.Core.Bool.{Bool, true, false, not, cond, _&&_, _||_, or-assoc, or-true}
+use mathlib.Core.Bool.{Bool, true, false, not, cond, _&&_, _||_, or-assoc, or-false, or-true}
 use mathlib.Core.List.{List, [], _∷_, _++_, map, flatMap, append-nil, append-assoc}
 use mathlib.Core.Option.{none, some}
 use Prim.Native.Nat.{ℕ, zero, suc, _+_, _-_, _≤_, _<_}
@@ -232,6 +232,13 @@ any-places p xs d =
 -- some number of a row passes
 pub row-some : (p : ℕ → Bool) (n k : ℕ) → k < n → p k ≡ true → anyOf p (upFrom 0 n) ≡ true
 row-some p n k l e = some-any p (upFrom 0 n) 0 k (rw length-upFrom l) (ap p (getD-upFrom 0 n k 0 l ∙ zero-add k) ∙ e)
+
+-- whether some number of a row passes, with one number more
+pub any-next : (p : ℕ → Bool) (n : ℕ) → anyOf p (upFrom 0 (n + 1)) ≡ (anyOf p (upFrom 0 n) || p n)
+unfolding anyOf upFrom
+any-next p n =
+    ap (anyOf p) (upFrom-split 0 n 1) ∙ any-append p (upFrom 0 n) ((0 + n) ∷ [])
+    ∙ ap (λ (b : Bool). anyOf p (upFrom 0 n) || b) (or-false (p (0 + n)) ∙ ap p (zero-add n))
 
 -- no pair passes
 pub any-pairs : (p : ℕ × ℕ → Bool) (n a b : ℕ) → anyOf p (pairs n) ≡ false → a ≤ b → b < n → p (a, b) ≡ false

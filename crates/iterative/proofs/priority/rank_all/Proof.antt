@@ -1,0 +1,87 @@
+-- `priority::rank_all` is safe and ends: its loop goes through the operations, of which there are at most 64. Assumes nothing.
+use Prim.Native.Nat.{_-_, _≤_}
+use native.Mathlib.Omega.{arith}
+use Rattle.board.proofs.Boards.{few-operations}
+use Rattle.iterative.proofs.priority.rank_all.Statement.{statement}
+use Rattle.iterative.proofs.priority.rank_all.Tie as tie
+
+abbrev Inv-loop : tie.InvT-loop
+Inv-loop file n interval order ranks₀ high early o₀ ranks o = (o ≤ n) × (n ≤ 64)
+
+abbrev μ-loop : tie.MeasureT-loop
+μ-loop file n interval order ranks₀ high early o₀ ranks o = n - o
+
+paths-requires : tie.Need-paths-requires Inv-loop μ-loop
+paths-requires c κs = let p = c .before .before .pre in (p .0, p .1)
+
+paths-requires-2 : tie.Need-paths-requires-2 Inv-loop μ-loop
+paths-requires-2 c κs = let p = c .before .before .before .before .before .pre in (p .0, p .1)
+
+loop-holds : tie.Need-loop-holds Inv-loop μ-loop
+loop-holds c = let s = c .before .before .before .before in (omega arith, omega (arith, few-operations (s .args .file .now) (s .pre .0)))
+
+mul-wide : tie.Need-mul-wide Inv-loop μ-loop
+mul-wide c = omega arith
+
+array-read-wide : tie.Need-array-read-wide Inv-loop μ-loop
+array-read-wide c = omega arith
+
+wide-requires : tie.Need-wide-requires Inv-loop μ-loop
+wide-requires c κs = omega arith
+
+mul-wide-2 : tie.Need-mul-wide-2 Inv-loop μ-loop
+mul-wide-2 c = omega arith
+
+array-read-wide-2 : tie.Need-array-read-wide-2 Inv-loop μ-loop
+array-read-wide-2 c = omega arith
+
+wide-requires-2 : tie.Need-wide-requires-2 Inv-loop μ-loop
+wide-requires-2 c κs = omega arith
+
+held-requires : tie.Need-held-requires Inv-loop μ-loop
+held-requires c κs = let p = c .before .before .before .before .before .before .before .before .pre in (p .0, omega arith)
+
+rank-requires : tie.Need-rank-requires Inv-loop μ-loop
+rank-requires c κs = omega arith
+
+mul-ranks : tie.Need-mul-ranks Inv-loop μ-loop
+mul-ranks c = omega arith
+
+element-write-ranks : tie.Need-element-write-ranks Inv-loop μ-loop
+element-write-ranks c = omega arith
+
+add-o : tie.Need-add-o Inv-loop μ-loop
+add-o c = omega arith
+
+loop-less : tie.Need-loop-less Inv-loop μ-loop
+loop-less c = omega arith
+
+loop-again : tie.Need-loop-again Inv-loop μ-loop
+loop-again c = (omega arith, omega arith)
+
+returns : tie.Need-returns Inv-loop μ-loop
+returns c = tt
+
+pub rank-all-spec : {M : Type 1} → statement M
+rank-all-spec =
+    tie.close
+    (tie.spec
+    Inv-loop
+    μ-loop
+    paths-requires
+    paths-requires-2
+    loop-holds
+    mul-wide
+    array-read-wide
+    wide-requires
+    mul-wide-2
+    array-read-wide-2
+    wide-requires-2
+    held-requires
+    rank-requires
+    mul-ranks
+    element-write-ranks
+    add-o
+    loop-less
+    loop-again
+    returns)

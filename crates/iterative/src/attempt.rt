@@ -1,0 +1,108 @@
+// Attempts at one interval: operations are put and displaced until all are placed. Whatever is put where, the rows stay the table of the starts, and the starts legal. Internal: asks for an accepted file and for numbers
+// and lengths in range.
+use crate::priority::pick;
+use crate::priority::rank_all;
+use crate::timing::choose_start;
+use crate::wide;
+use board::moves::force;
+use reservation::clear::clear_rows;
+ghost use mathlib.Core.Path.{_≡_};
+ghost use Prim.Native.Nat.{_<_};
+ghost use Rattle.model.specs.Loop.{size};
+ghost use Rattle.model.specs.File.{loopOf};
+ghost use Rattle.board.specs.Board.{Board};
+ghost use Rattle.iterative.specs.Placed.{Ready, Kept, Settled, Attempted};
+
+// One step: puts `op`, and takes out what is in its way. Whether there is a start for it below the horizon. again[i] is the first start after the last one that operation i had.
+fn step(
+    file: &[u8],
+    op: usize,
+    interval: usize,
+    horizon: usize,
+    again: &mut [u16; 64],
+    starts: &mut [u16; 64],
+    rows: &mut [u64],
+) -> bool
+    requires { ⌜ Board (now file) interval horizon (now starts) (now rows) × (op < size (loopOf (now file))) ⌝ }
+    ensures { λ r. ⌜ Kept (now (file .entry)) interval horizon (now (rows .entry)) (now (starts .exit)) (now (rows .exit)) ⌝ }
+{
+    let start = choose_start(file, op, wide(again[op]), interval, horizon, starts, rows);
+    if horizon <= start {
+        return false;
+    }
+    force(file, file.len(), interval, horizon, op, start, starts, rows);
+    again[op] = (start + 1) as u16;
+    true
+}
+
+// Steps by one of the orders of priority, 10 an operation at most; whether all operations are placed.
+fn settle(
+    file: &[u8],
+    n: usize,
+    interval: usize,
+    horizon: usize,
+    order: usize,
+    starts: &mut [u16; 64],
+    rows: &mut [u64],
+) -> bool
+    requires { ⌜ Board (now file) interval horizon (now starts) (now rows) × (n ≡ size (loopOf (now file))) ⌝ }
+    ensures { λ r. ⌜ Settled (now (file .entry)) n interval horizon (now (rows .entry)) (now (starts .exit)) (now (rows .exit)) r ⌝ }
+{
+    let mut ranks = [0u32; 64];
+    rank_all(file, n, interval, order, &mut ranks);
+    let mut again = [0u16; 64];
+    let mut left = 10 * n;
+    loop {
+        let op = pick(n, starts, &ranks);
+        if op == n {
+            return true;
+        }
+        if left == 0 {
+            return false;
+        }
+        left = left - 1;
+        if !step(file, op, interval, horizon, &mut again, starts, rows) {
+            return false;
+        }
+    }
+}
+
+// An attempt by one of the orders of priority, from no operation placed on; whether all are placed in the end.
+fn attempt(
+    file: &[u8],
+    n: usize,
+    interval: usize,
+    horizon: usize,
+    order: usize,
+    starts: &mut [u16; 64],
+    rows: &mut [u64],
+) -> bool
+    requires { ⌜ Ready (now file) n interval horizon (now starts) (now rows) ⌝ }
+    ensures { λ r. ⌜ Attempted (now (file .entry)) n interval horizon (now (starts .entry)) (now (rows .entry)) (now (starts .exit)) (now (rows .exit)) r ⌝ }
+{
+    clear_rows(rows, interval);
+    *starts = [65535u16; 64];
+    settle(file, n, interval, horizon, order, starts, rows)
+}
+
+// Attempts by each of the four orders of priority, until one succeeds; whether one does.
+pub fn attempt_all(
+    file: &[u8],
+    n: usize,
+    interval: usize,
+    horizon: usize,
+    starts: &mut [u16; 64],
+    rows: &mut [u64],
+) -> bool
+    requires { ⌜ Ready (now file) n interval horizon (now starts) (now rows) ⌝ }
+    ensures { λ r. ⌜ Attempted (now (file .entry)) n interval horizon (now (starts .entry)) (now (rows .entry)) (now (starts .exit)) (now (rows .exit)) r ⌝ }
+{
+    let mut order = 0;
+    while order < 4 {
+        if attempt(file, n, interval, horizon, order, starts, rows) {
+            return true;
+        }
+        order = order + 1;
+    }
+    false
+}

@@ -1,0 +1,66 @@
+// Iterative modulo scheduling (Rau 1994): a start for each operation, found without a search. The operation of the highest rank is put where it is free or, where it is free nowhere, forced, and what is in its
+// way is taken out and put again later. It is quick and mostly succeeds at the smallest interval that has a schedule; where it does not, nothing is said of whether there is one. Internal: asks for an accepted file and for
+// numbers and lengths in range.
+mod attempt;
+mod priority;
+mod timing;
+
+use crate::attempt::attempt_all;
+ghost use mathlib.Core.Path.{_≡_};
+ghost use Prim.Native.Nat.{_+_, _≤_, max, min};
+ghost use Rattle.iterative.specs.Placed.{Asked, Placed};
+
+// A number of 16 bits as a larger one.
+fn wide(x: u16) -> usize
+    ensures { λ r. ⌜ r ≡ x ⌝ }
+{
+    x as usize
+}
+
+// The larger of two numbers.
+fn larger(a: usize, b: usize) -> usize
+    ensures { λ r. ⌜ r ≡ max a b ⌝ }
+{
+    if a < b {
+        return b;
+    }
+    a
+}
+
+// The last interval that is tried. From horizon + 63 on no row wraps and every dependence on an earlier iteration is met, so the same starts are legal at every interval from there on.
+fn last_of(least: usize, cap: usize, horizon: usize) -> usize
+    requires { ⌜ horizon ≤ 4096 ⌝ }
+    ensures { λ r. ⌜ r ≡ min (max least (horizon + 63)) cap ⌝ }
+{
+    let last = larger(least, horizon + 63);
+    if last < cap {
+        return last;
+    }
+    cap
+}
+
+// The interval at which every operation got a start, or 0 where none of those tried had one. Tried are the intervals from `least` to the cap or, if that is less, to the larger of `least` and horizon + 63; each in four
+// orders of priority, and in each with 10 steps an operation, a step for each time that an operation is put. Beside what is found, the starts and the first 4,096 rows are left as the last attempt left them: the caller
+// clears the rows.
+pub fn place_all(
+    file: &[u8],
+    n: usize,
+    least: usize,
+    cap: usize,
+    horizon: usize,
+    starts: &mut [u16; 64],
+    rows: &mut [u64],
+) -> usize
+    requires { ⌜ Asked (now file) n least cap horizon (now starts) (now rows) ⌝ }
+    ensures { λ r. ⌜ Placed (now (file .entry)) n least cap horizon (now (starts .entry)) (now (rows .entry)) (now (starts .exit)) (now (rows .exit)) r ⌝ }
+{
+    let last = last_of(least, cap, horizon);
+    let mut ii = least;
+    while ii <= last {
+        if attempt_all(file, n, ii, horizon, starts, rows) {
+            return ii;
+        }
+        ii = ii + 1;
+    }
+    0
+}
