@@ -11,9 +11,11 @@ use lib.Seq.{drop-drop, drop-at, length-take-le}
 use Rattle.model.specs.Loop.{size}
 use Rattle.model.specs.File.{loopOf}
 use Rattle.model.specs.Legality.{placed}
+use Rattle.model.proofs.File.{accepted-ok}
 use Rattle.model.proofs.Firsts.{getD-within}
 use Rattle.model.proofs.StartLists.{placed-take, placed-after}
-use Rattle.model.proofs.Legality.{Part, legal-part}
+use Rattle.model.proofs.Legality.{Part}
+use Rattle.model.proofs.Counts.{legal-part}
 use Rattle.reservation.specs.Seats.{seats}
 use Rattle.reservation.proofs.Seats.{seat-some}
 use Rattle.reservation.proofs.Stores.{cleared-length}
@@ -52,7 +54,7 @@ module _ {f xs rows : List ℕ} {n ii h : ℕ} (b : Board f ii h xs rows) (e : n
   -- so it is legal, and below the horizon
   pub schedule : Schedule (loopOf f) n ii h xs
   schedule = record {
-    fine = legal-part (loopOf f) ii (placed (take n xs)) (seats xs) part (b .sane .fine);
+    fine = legal-part (loopOf f) ii (accepted-ok f (b .accepted)) (b .numbers .some) (placed (take n xs)) (seats xs) part (b .sane .fine);
     near = λ o m. rw (getD-within xs o 0 65535 (omega (arith, room))) (sane-near (b .sane) o (all o m));
   }
 

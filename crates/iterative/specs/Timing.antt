@@ -9,7 +9,8 @@ use lib.ListN.{length}
 use Rattle.model.specs.Lists.{upFrom, anyOf}
 use Rattle.model.specs.Loop.{Op, Dep, Loop, opAt, depAt}
 use Rattle.model.specs.Legality.{Placing, brokenAt}
-use Rattle.reservation.specs.Place.{firstTaken}
+use Rattle.model.specs.Table.{rowBase}
+use Rattle.reservation.specs.Place.{firstMet}
 use Rattle.reservation.specs.Seats.{seats}
 
 -- ---- dependences on placed operations
@@ -30,7 +31,7 @@ pub record EarliestStart (l : Loop) (ii : ℕ) (xs : List ℕ) (o k r : ℕ) : T
 
 -- the rows are free for operation p, started at t
 abbrev pub FreeAt : ℕ → List ℕ → Op → ℕ → Type 0
-FreeAt ii rows p t = firstTaken ii rows t (p .uses) ≡ none
+FreeAt ii rows p t = firstMet rowBase ii rows t (p .uses) ≡ none
 
 -- r is the first start of from, .., from + ii - 1, below h, at which the rows are free for p, or h where there is none
 pub record FirstFree (p : Op) (ii h from : ℕ) (rows : List ℕ) (r : ℕ) : Type 0 where
