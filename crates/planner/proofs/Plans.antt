@@ -13,9 +13,9 @@ use Rattle.model.specs.Loop.{Loop, LoopOk}
 use Rattle.model.specs.Legality.{legal}
 use Rattle.model.specs.Bounds.{Lower, LowerIs}
 use Rattle.model.specs.Search.{stageCount, Request, Schedule, Outcome, found, ended}
-use Rattle.search.specs.Demand2.{Listed, NoneAt, spentBelow, larger, ten, eleven, FoundIs, TenIs, ElevenIs, Ends}
+use Rattle.search.specs.Demand2.{Listed, NoneAt, spentBelow, larger, ten, eleven, FoundIs, ElevenIs, Ends}
 use Rattle.search.proofs.Sweeps.{spent-more, none-below}
-use Rattle.planner.specs.Answer.{Plan, PlanEnd, scheduled, unscheduled, LegalAt, PlanIs, AsGood, PlanEnds}
+use Rattle.planner.specs.Answer.{Plan, scheduled, unscheduled, LegalAt, PlanEnds}
 
 -- the same request, up to a smaller cap
 abbrev pub upTo : Request → ℕ → Request

@@ -24,7 +24,7 @@ use Rattle.search.specs.declared.Searched.the-variants as searched
 -- ---- the stage count
 
 -- it depends on the starts of the loop's operations alone
-stages-take : (l : Loop) (ii n : ℕ) (xs : List ℕ) → n ≡ size l → stageCount l ii (take n xs) ≡ stageCount l ii xs
+pub stages-take : (l : Loop) (ii n : ℕ) (xs : List ℕ) → n ≡ size l → stageCount l ii (take n xs) ≡ stageCount l ii xs
 unfolding stageCount lastEnd
 stages-take l ii n xs e =
     ap (λ (m : ℕ). ceilDiv (m + 1) ii)
