@@ -9,7 +9,7 @@ use Rattle.model.proofs.File.{accepted-ok}
 use Rattle.reservation.specs.Seats.{seats, brokenOf}
 use Rattle.reservation.proofs.TakenCells.{free-place, taken-place}
 use Rattle.board.specs.Checks.{refusalOf}
-use Rattle.board.proofs.Refusals.{common, known-inside, known-near, place-early, place-broken, place-clash, place-fine}
+use Rattle.board.proofs.Refusals.{common, known, place-early, place-broken, place-clash, place-fine}
 use Rattle.board.proofs.checks.placeable.Statement.{statement}
 use Rattle.board.proofs.checks.placeable.Tie as tie
 
@@ -41,7 +41,7 @@ first-broken-requires c κs =
     let k = c .before .before .before in
     let a = start k .args in
     let p = start k .pre in
-    (p .accepted, omega (arith, known-near (a .file .now) (a .horizon) (a .op) (a .start) (a .starts .now) (known-is (c .before)), p .numbers .far), p .numbers .short, omega (arith, accepted-ok (a .file .now) (p .accepted) .few, p .sane .whole))
+    (p .accepted, omega (arith, known (a .file .now) (a .horizon) (a .op) (a .start) (a .starts .now) (known-is (c .before)) .soon, p .numbers .far), p .numbers .short, omega (arith, accepted-ok (a .file .now) (p .accepted) .few, p .sane .whole))
 
 enum-known-broken : tie.Need-enum-known-broken
 enum-known-broken c = omega arith
@@ -67,7 +67,7 @@ first-use-requires c κs =
     let t = c .before .before .before .before in
     let k = t .before .before in
     let a = start k .args in
-    (start k .pre .accepted, known-inside (a .file .now) (a .horizon) (a .op) (a .start) (a .starts .now) (known-is t))
+    (start k .pre .accepted, known (a .file .now) (a .horizon) (a .op) (a .start) (a .starts .now) (known-is t) .inside)
 
 conflict-requires : tie.Need-conflict-requires
 conflict-requires c κs =
@@ -75,7 +75,7 @@ conflict-requires c κs =
     let k = t .before .before in
     let a = start k .args in
     let p = start k .pre in
-    (p .accepted, known-inside (a .file .now) (a .horizon) (a .op) (a .start) (a .starts .now) (known-is t), omega (arith, known-near (a .file .now) (a .horizon) (a .op) (a .start) (a .starts .now) (known-is t), p .numbers .far), p .numbers .some, p .numbers .short, p .held .long, c .first-use .ensures)
+    (p .accepted, known (a .file .now) (a .horizon) (a .op) (a .start) (a .starts .now) (known-is t) .inside, omega (arith, known (a .file .now) (a .horizon) (a .op) (a .start) (a .starts .now) (known-is t) .soon, p .numbers .far), p .numbers .some, p .numbers .short, p .held .long, c .first-use .ensures)
 
 enum-told-4 : tie.Need-enum-told-4
 enum-told-4 c = omega arith
