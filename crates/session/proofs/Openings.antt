@@ -2,7 +2,7 @@
 use mathlib.Core.Path.{_≡_, refl, sym, ap, _∙_}
 use mathlib.Core.List.{List, [], _∷_, _++_}
 use mathlib.Core.Option.{Option, none, some}
-use Prim.Native.Nat.{ℕ, zero, suc, _+_, _≤_, _<_}
+use Prim.Native.Nat.{ℕ, zero, suc, _+_, _≤_}
 use native.Mathlib.Nat.{not-suc-le-zero, le-of-suc-le-suc}
 use native.Mathlib.Omega.{arith}
 use borrow.Author.Tests.{ltb-false}
@@ -16,14 +16,14 @@ use Rattle.model.proofs.File.{layout, accepted-ok}
 use Rattle.model.proofs.Lists.{getD-filled}
 use Rattle.model.proofs.Checks.{passes-left, passes-right, passes-head, passes-tail, at-most, at-least}
 use Rattle.model.proofs.Table.{table-nil, cells-nothing}
-use Rattle.model.proofs.Counts.{legal-nothing}
+use Rattle.model.proofs.Good.{good-start}
 use Rattle.reservation.specs.Seats.{seatOf, seats}
 use Rattle.reservation.proofs.Stores.{cleared, cleared-length}
 use Rattle.board.specs.Board.{startsOf, setupAs, Board}
 use Rattle.session.specs.View.{fileOf, stateOf, blank, Valid, closedSession, Opened}
 use Rattle.session.specs.declared.Session.{Session}
 use Rattle.refusals.specs.declared.Checked.the-variants as checked
-use Rattle.board.proofs.Boards.{few-operations}
+use Rattle.board.proofs.Boards.{few-operations, good-sane}
 
 -- ---- an empty array
 
@@ -101,19 +101,12 @@ module _ (f : List ℕ) (ii h : ℕ) (rows : List ℕ) where
             accepted = open-accepted;
             numbers = record { some = open-some; short = open-long; far = open-far };
             sane =
-                record {
-                  whole = length-replicate {A = ℕ} 64 65535;
-                  blank = λ o l. getD-filled 64 o 65535;
-                  near = λ o t p. never o t (sym (nowhere-yet o) ∙ p);
-                  fine = legal-nothing (loopOf f) ii (accepted-ok f open-accepted) open-some (seats (replicate 64 65535)) nowhere-yet;
-                };
+                good-sane f open-accepted (length-replicate {A = ℕ} 64 65535) (λ o l. getD-filled 64 o 65535)
+                (rw (blank-starts (size (loopOf f)) 64 (few-operations f open-accepted)) (good-start (setupAs f ii h) (accepted-ok f open-accepted) open-some .now));
             held =
                 rw (cells-nothing (loopOf f) ii (seats (replicate 64 65535)) nowhere-yet, clear)
                 (table-nil 2 ii (replicate ii 0 ++ drop ii rows) (rw (cleared-length ii rows open-room) open-room) (λ r l. cleared ii rows r l));
           }
-        where
-          never : (o t : ℕ) → _≡_ {A = Option ℕ} none (some t) → t < h
-          never o t q = let y : _≡_ {A = ℕ} 0 1 = cc in absurd (omega arith)
 
       -- opened
       pub open-done : Opened f ii h rows opened checked.Fine rows′
