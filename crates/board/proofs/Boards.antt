@@ -1,15 +1,16 @@
 -- Laws of lists of starts and of the boards that they make with their rows: none placed, one operation put in, one taken out, and fewer operations. Assumes nothing.
-use mathlib.Core.Path.{_≡_, refl, sym, ap, _∙_, fun-ext}
-use mathlib.Core.Bool.{true}
+use mathlib.Core.Path.{_≡_, refl, sym, ap, _∙_}
+use mathlib.Core.Bool.{Bool, true}
 use mathlib.Core.List.{List, _++_}
 use mathlib.Core.Logic.{_⊎_, inl, inr}
 use mathlib.Core.Option.{Option, none, some}
-use Prim.Native.Nat.{ℕ, _≤_, _<_}
+use Prim.Native.Nat.{ℕ, _+_, _≤_, _<_}
 use native.Mathlib.Decide.{ℕ-discrete, decLt}
 use native.Mathlib.Omega.{arith}
-use borrow.Author.Tests.{eq-eqb, ne-eqb}
+use borrow.Author.Tests.{lt-ltb, le-ltb}
+use lib.Dec.{ltb}
 use lib.ListN.{length, getD, set, drop, replicate, length-set, length-drop, length-replicate}
-use lib.Seq.{getD-set-same, getD-set-other, set-out}
+use lib.Seq.{getD-set-same, getD-set-other, set-out, set-set, set-getD}
 use Rattle.model.specs.Loop.{Loop, size, opAt, LoopOk}
 use Rattle.model.specs.File.{loopOf, Accepted}
 use Rattle.model.specs.Legality.{Placing, legalAt, placeAt, fitsAt}
@@ -17,6 +18,7 @@ use Rattle.model.specs.Table.{rowBase, IsTable, cellsOf}
 use Rattle.model.specs.Session.{placedIn}
 use Rattle.model.proofs.Lists.{getD-filled}
 use Rattle.model.proofs.File.{accepted-ok}
+use Rattle.model.proofs.StartLists.{set-places}
 use Rattle.model.proofs.Legality.{fits-conflict, Part}
 use Rattle.model.proofs.Counts.{legal-part, legal-nothing}
 use Rattle.model.proofs.Table.{table-nil, cells-nothing}
@@ -85,23 +87,26 @@ good-sane f {ii} {xs = xs} a whole blank g =
 
 -- a list with the start x put in place o says its placing with o at x
 pub put-seats : (xs : List ℕ) (o x : ℕ) → o < length xs → (x ≡ 65535 → ⊥) → seats (set xs o x) ≡ placeAt (seats xs) o x
-put-seats xs o x l n = fun-ext (λ p. go p (ℕ-discrete p o))
-  where
-    go : (p : ℕ) → Dec (p ≡ o) → seats (set xs o x) p ≡ placeAt (seats xs) o x p
-    go p (yes e) = rw (e, getD-set-same xs o x 65535 l, eq-eqb o o refl) (seat-some x n)
-    go p (no d) = rw (getD-set-other xs o p x 65535 d, ne-eqb p o d)
+put-seats xs o x l n = set-places seatOf 65535 xs o x x l (seat-some x n)
 
 -- and one that has the start t in place o says the placing, with o at t, of the list with that place blank
 pub lift-seats : (xs : List ℕ) (o t : ℕ) → o < length xs → getD xs o 65535 ≡ t → (t ≡ 65535 → ⊥) → seats xs ≡ placeAt (seats (set xs o 65535)) o t
-lift-seats xs o t l q n = fun-ext (λ p. go p (ℕ-discrete p o))
-  where
-    go : (p : ℕ) → Dec (p ≡ o) → seats xs p ≡ placeAt (seats (set xs o 65535)) o t p
-    go p (yes e) = rw (e, q, eq-eqb o o refl) (seat-some t n)
-    go p (no d) = rw (ne-eqb p o d, getD-set-other xs o p 65535 65535 d)
+lift-seats xs o t l q n =
+    ap seats (sym (set-set xs o 65535 t ∙ ap (set xs o) (sym q) ∙ set-getD xs o 65535)) ∙ put-seats (set xs o 65535) o t (rw length-set l) n
 
 -- in which o is not placed
 pub lift-open : (xs : List ℕ) (o : ℕ) → o < length xs → seats (set xs o 65535) o ≡ none
 lift-open xs o l = seat-none (getD (set xs o 65535) o 65535) (getD-set-same xs o 65535 65535 l)
+
+-- of a list whose first k places have had their turn, with one turn more; g says what stands in a place after its turn and before
+pub turn-next : (g : Bool → ℕ → ℕ) (k : ℕ) (xs ys : List ℕ) → ((p : ℕ) → getD xs p 65535 ≡ g (ltb p k) p) → getD ys k 65535 ≡ g true k
+    → ((p : ℕ) → (p ≡ k → ⊥) → getD ys p 65535 ≡ getD xs p 65535) → (p : ℕ) → getD ys p 65535 ≡ g (ltb p (k + 1)) p
+turn-next g k xs ys at here rest p = go (ℕ-discrete p k) (decLt p k)
+  where
+    go : Dec (p ≡ k) → Dec (p < k) → getD ys p 65535 ≡ g (ltb p (k + 1)) p
+    go (yes e) d = rw (e, lt-ltb k (k + 1) (omega arith)) here
+    go (no n) (yes l) = rest p n ∙ at p ∙ ap (λ (b : Bool). g b p) (lt-ltb p k l ∙ sym (lt-ltb p (k + 1) (omega arith)))
+    go (no n) (no m) = rest p n ∙ at p ∙ ap (λ (b : Bool). g b p) (le-ltb p k (omega arith) ∙ sym (le-ltb p (k + 1) (omega arith)))
 
 -- ---- sane starts
 

@@ -16,7 +16,7 @@ use Rattle.model.specs.Legality.{Placing, fitsAt}
 use Rattle.model.specs.Session.{State, Call, place, remove, Reply, isPlaced, checks, effect, step}
 use Rattle.model.proofs.Checks.{passes-head, passes-tail}
 use Rattle.model.proofs.File.{accepted-ok}
-use Rattle.model.proofs.Good.{passed, good-step}
+use Rattle.model.proofs.Good.{new-passed, good-step}
 use Rattle.model.proofs.Good as good
 use Rattle.model.proofs.Session.{step-refused, step-done}
 use Rattle.reservation.specs.Seats.{seats}
@@ -87,13 +87,13 @@ module _ {f : List ℕ} {ii h : ℕ} {xs rows : List ℕ} (b : Board f ii h xs r
   module _ (o t : ℕ) (fine : firstRefusal (checks (setupAs f ii h) (place o t) (bare f xs)) ≡ none) where
     -- the operation is there, not placed, and its start below the horizon
     pub place-inside : o < size (loopOf f)
-    place-inside = passed (setupAs f ii h) (bare f xs) o t _ _ fine .inside
+    place-inside = new-passed (setupAs f ii h) (bare f xs) o t _ fine .inside
 
     pub place-open : seats xs o ≡ none
-    place-open = sym (starts-at (size (loopOf f)) xs o place-inside) ∙ passed (setupAs f ii h) (bare f xs) o t _ _ fine .free
+    place-open = sym (starts-at (size (loopOf f)) xs o place-inside) ∙ new-passed (setupAs f ii h) (bare f xs) o t _ fine .free
 
     pub place-near : t < h
-    place-near = passed (setupAs f ii h) (bare f xs) o t _ _ fine .soon
+    place-near = new-passed (setupAs f ii h) (bare f xs) o t _ fine .soon
 
     -- it fits
     pub place-fits : fitsAt (loopOf f) ii (seats xs) o t ≡ true

@@ -5,7 +5,7 @@ use mathlib.Core.List.{List}
 use mathlib.Core.Option.{Option, none, some}
 use Prim.Native.Nat.{ℕ, zero, suc, _+_, _*_, _%_, _^_, _<_}
 use native.Mathlib.Nat.{div-eq-of-lt}
-use native.Mathlib.Decide.{ℕ-discrete, decLt}
+use native.Mathlib.Decide.{ℕ-discrete}
 use native.Mathlib.Omega.{arith}
 use borrow.Author.Tests.{eq-eqb, ne-eqb, lt-ltb, le-ltb}
 use lib.Bits.{bitOr}
@@ -21,7 +21,7 @@ use Rattle.model.specs.Legality.{Placing, conflict, conflictAt, touches, breaks
 use Rattle.model.specs.Session.{Starts, placedIn, force, displaced, isPlaced, checks, inTheWay, without, maskOf}
 use Rattle.model.proofs.Lists.{any-places}
 use Rattle.model.proofs.Sums.{sum-next}
-use Rattle.model.proofs.Good.{without-length, without-at, passed}
+use Rattle.model.proofs.Good.{without-length, without-at, new-passed}
 use Rattle.model.proofs.Good as good
 use Rattle.reservation.specs.Seats.{seatOf, seats}
 use Rattle.reservation.proofs.Bits.{or-shl}
@@ -30,7 +30,7 @@ use Rattle.board.specs.Board.{setupAs, startsOf, bare, Sane, Board, IsPu
 use Rattle.board.specs.Moves.{hitBy, HitIs, HitsAre, way, Cleared, Did}
 use Rattle.board.specs.declared.Reply.the-variants as reply
 use Rattle.board.proofs.Readings.{starts-at, starts-length, starts-set}
-use Rattle.board.proofs.Boards.{few-operations, board-far, sane-near, same-seats, lift-board}
+use Rattle.board.proofs.Boards.{few-operations, board-far, sane-near, same-seats, turn-next, lift-board}
 use Rattle.board.proofs.Hits.{hit-same}
 use Rattle.board.proofs.Effects.{blank-is, did-done}
 
@@ -113,22 +113,6 @@ bits-set w k l e = or-shl (bits w k) k l (ap (λ (x : ℕ). x % 2) (div-eq-of-lt
 
 -- ---- taking out what is in the way
 
--- before its turn an operation is as it was
-turn-before : (k : ℕ) (w : Bool) (x : ℕ) → cond (ltb k k && w) 65535 x ≡ x
-turn-before k w x = rw (le-ltb k k (omega arith))
-
--- after its turn it is there only if it is not in the way
-turn-after : (k : ℕ) (w : Bool) (x : ℕ) → cond (ltb k (k + 1) && w) 65535 x ≡ cond w 65535 x
-turn-after k w x = rw (lt-ltb k (k + 1) (omega arith))
-
--- the turn of another changes nothing
-turn-other : (k q : ℕ) → (q ≡ k → ⊥) → ltb q (k + 1) ≡ ltb q k
-turn-other k q n = pick (decLt q k)
-  where
-    pick : Dec (q < k) → ltb q (k + 1) ≡ ltb q k
-    pick (yes l) = rw (lt-ltb q k l, lt-ltb q (k + 1) (omega arith))
-    pick (no m) = rw (le-ltb q k (omega arith), le-ltb q (k + 1) (omega arith))
-
 -- at first nothing is taken out
 pub clear-begin : {f : List ℕ} {ii : ℕ} {xs rows : List ℕ} (o t : ℕ) → Board f ii 4096 xs rows → Cleared f ii o t 0 xs rows xs rows 0
 clear-begin {f} {ii} {xs} o t b = record {
@@ -139,9 +123,13 @@ clear-begin {f} {ii} {xs} o t b = record {
 }
 
 module _ {f : List ℕ} {ii o t p : ℕ} {xs₀ rows₀ xs rows : List ℕ} {mask : ℕ} (b : Board f ii 4096 xs₀ rows₀) (free : getD xs₀ o 65535 ≡ 65535) (c : Cleared f ii o t p xs₀ rows₀ xs rows mask) where
+  -- what stands in place q, by whether it has had its turn
+  abbrev cleared : Bool → ℕ → ℕ
+  cleared b q = cond (b && way f ii o t xs₀ q) 65535 (getD xs₀ q 65535)
+
   -- operation p is as it was
   clear-here : getD xs p 65535 ≡ getD xs₀ p 65535
-  clear-here = c .at p ∙ turn-before p (way f ii o t xs₀ p) (getD xs₀ p 65535)
+  clear-here = c .at p ∙ ap (λ (b : Bool). cleared b p) (le-ltb p p (omega arith))
 
   -- so it is in the way exactly where it was
   clear-way : way f ii o t xs p ≡ way f ii o t xs₀ p
@@ -179,41 +167,24 @@ module _ {f : List ℕ} {ii o t p : ℕ} {xs₀ rows₀ xs rows : List ℕ} {mas
   -- a turn: operation p is not in the way, and is left
   pub clear-keep : way f ii o t xs p ≡ false → Cleared f ii o t (p + 1) xs₀ rows₀ xs rows mask
   clear-keep w = record {
-    at = λ q. go q (ℕ-discrete q p);
+    at = turn-next cleared p xs xs (c .at) (clear-here ∙ sym (ap (λ (v : Bool). cond v 65535 (getD xs₀ p 65535)) (sym clear-way ∙ w))) (λ q n. refl);
     mask-is = c .mask-is ∙ sym (bits-skip (way f ii o t xs₀) p (sym clear-way ∙ w));
     board = c .board;
     rest = c .rest;
   }
-    where
-      here : getD xs p 65535 ≡ cond (ltb p (p + 1) && way f ii o t xs₀ p) 65535 (getD xs₀ p 65535)
-      here =
-          clear-here
-          ∙ sym (turn-after p (way f ii o t xs₀ p) (getD xs₀ p 65535) ∙ ap (λ (v : Bool). cond v 65535 (getD xs₀ p 65535)) (sym clear-way ∙ w))
-
-      go : (q : ℕ) → Dec (q ≡ p) → getD xs q 65535 ≡ cond (ltb q (p + 1) && way f ii o t xs₀ q) 65535 (getD xs₀ q 65535)
-      go q (yes e) = rw e here
-      go q (no n) = c .at q ∙ ap (λ (v : Bool). cond (v && way f ii o t xs₀ q) 65535 (getD xs₀ q 65535)) (sym (turn-other p q n))
 
   -- a turn: it is in the way, and is taken out; its bit is set
   pub clear-lift : {xs′ rows′ : List ℕ} → p < 64 → way f ii o t xs p ≡ true → IsPut f ii p 65535 xs rows xs′ rows′
       → Cleared f ii o t (p + 1) xs₀ rows₀ xs′ rows′ (bitOr mask (1 * 2 ^ p % 2 ^ 64))
   clear-lift {xs′} l w i = record {
-    at = λ q. rw (i .starts-are) (go q (ℕ-discrete q p));
+    at = λ q. rw (i .starts-are) (turn-next cleared p xs (set xs p 65535) (c .at) gone (λ q n. getD-set-other xs p q 65535 65535 n) q);
     mask-is = ap (λ (m : ℕ). bitOr m (1 * 2 ^ p % 2 ^ 64)) (c .mask-is) ∙ bits-set (way f ii o t xs₀) p l (sym clear-way ∙ w);
     board = lift-board (c .board) i;
     rest = i .rest ∙ c .rest;
   }
     where
-      here : getD (set xs p 65535) p 65535 ≡ cond (ltb p (p + 1) && way f ii o t xs₀ p) 65535 (getD xs₀ p 65535)
-      here =
-          getD-set-same xs p 65535 65535 (omega (arith, c .board .sane .whole))
-          ∙ sym (turn-after p (way f ii o t xs₀ p) (getD xs₀ p 65535) ∙ ap (λ (v : Bool). cond v 65535 (getD xs₀ p 65535)) (sym clear-way ∙ w))
-
-      go : (q : ℕ) → Dec (q ≡ p) → getD (set xs p 65535) q 65535 ≡ cond (ltb q (p + 1) && way f ii o t xs₀ q) 65535 (getD xs₀ q 65535)
-      go q (yes e) = rw e here
-      go q (no n) =
-          getD-set-other xs p q 65535 65535 n ∙ c .at q
-          ∙ ap (λ (v : Bool). cond (v && way f ii o t xs₀ q) 65535 (getD xs₀ q 65535)) (sym (turn-other p q n))
+      gone : getD (set xs p 65535) p 65535 ≡ cleared true p
+      gone = getD-set-same xs p 65535 65535 (omega (arith, c .board .sane .whole)) ∙ sym (ap (λ (v : Bool). cond v 65535 (getD xs₀ p 65535)) (sym clear-way ∙ w))
 
 -- ---- what is left
 
@@ -251,13 +222,13 @@ module _ {f : List ℕ} {ii h o t : ℕ} {xs rows xs′ rows′ : List ℕ} {mas
 module _ {f : List ℕ} {ii h : ℕ} {xs rows : List ℕ} (b : Board f ii h xs rows) (o t : ℕ) (fine : firstRefusal (checks (setupAs f ii h) (force o t) (bare f xs)) ≡ none) where
   -- the operation is there, not placed, and its start below the horizon
   pub force-inside : o < size (loopOf f)
-  force-inside = passed (setupAs f ii h) (bare f xs) o t _ _ fine .inside
+  force-inside = new-passed (setupAs f ii h) (bare f xs) o t _ fine .inside
 
   pub force-open : getD xs o 65535 ≡ 65535
-  force-open = blank-is xs o (sym (starts-at (size (loopOf f)) xs o force-inside) ∙ passed (setupAs f ii h) (bare f xs) o t _ _ fine .free)
+  force-open = blank-is xs o (sym (starts-at (size (loopOf f)) xs o force-inside) ∙ new-passed (setupAs f ii h) (bare f xs) o t _ fine .free)
 
   pub force-near : t < h
-  force-near = passed (setupAs f ii h) (bare f xs) o t _ _ fine .soon
+  force-near = new-passed (setupAs f ii h) (bare f xs) o t _ fine .soon
 
   module _ {xs′ rows′ : List ℕ} {mask : ℕ} (c : Cleared f ii o t (size (loopOf f)) xs rows xs′ rows′ mask) where
     -- with what was in the way taken out it is still not placed

@@ -2,10 +2,9 @@
 use mathlib.Core.Path.{_≡_, refl, sym, ap, _∙_, fun-ext}
 use mathlib.Core.Bool.{Bool, true, false}
 use mathlib.Core.List.{List, [], _∷_}
-use mathlib.Core.Option.{Option, none, some}
+use mathlib.Core.Option.{none, some}
 use Prim.Native.Nat.{ℕ, _≤_, _<_}
-use native.Mathlib.Omega.{arith}
-use borrow.Author.Tests.{le-leb, lt-leb, leb-false}
+use borrow.Author.Tests.{le-leb, lt-leb}
 use lib.ListN.{getD, replicate}
 use Rattle.model.specs.Refusals.{Refusal, Check, check, firstRefusal}
 use Rattle.model.specs.Loop.{size, opAt, LoopOk}
@@ -15,7 +14,8 @@ use Rattle.model.specs.Session.{placedIn, isPlaced, absent, taken, late, unmet,
 use Rattle.model.specs.Table.{rowBase}
 use Rattle.model.proofs.Lists.{getD-filled}
 use Rattle.model.proofs.File.{accepted-ok}
-use Rattle.model.proofs.Checks.{refusal-append, refusal-early, passes-head, passes-tail, found-refused, found-passed}
+use Rattle.model.proofs.Good.{New, new-passed}
+use Rattle.model.proofs.Checks.{refusal-append, refusal-early, found-refused, found-passed}
 use Rattle.reservation.specs.Place.{firstMet}
 use Rattle.reservation.specs.Seats.{seatOf, seats}
 use Rattle.reservation.proofs.Seats.{seat-none, seat-some}
@@ -69,23 +69,12 @@ module _ (f : List ℕ) (h o t : ℕ) (xs : List ℕ) where
   unfolding firstRefusal
   is-there l n = rw (lt-leb _ _ l, there f xs o l n)
 
-  -- ---- what the common checks tell
+  -- what the common checks tell
+  pub known : firstRefusal (common f h o t xs) ≡ none → New (setupAs f 0 h) (bare f xs) o t
+  known e = new-passed (setupAs f 0 h) (bare f xs) o t [] e
 
-  -- the operation is there
-  pub known-inside : firstRefusal (common f h o t xs) ≡ none → o < size (loopOf f)
-  known-inside e = leb-false _ _ (passes-head _ _ e)
-
-  -- its start is below the horizon
-  pub known-near : firstRefusal (common f h o t xs) ≡ none → t < h
-  known-near e = leb-false _ _ (passes-head _ _ (passes-tail _ _ (passes-tail _ _ e)))
-
-  -- it is not placed
-  pub known-open : firstRefusal (common f h o t xs) ≡ none → seats xs o ≡ none
-  known-open e = sym (starts-at (size (loopOf f)) xs o (known-inside e)) ∙ pick _ (passes-head _ _ (passes-tail _ _ e))
-    where
-      pick : (x : Option ℕ) → isPlaced x ≡ false → x ≡ none
-      pick none q = refl
-      pick (some a) q = let z : _≡_ {A = ℕ} 0 1 = cc in absurd (omega arith)
+  known-open : firstRefusal (common f h o t xs) ≡ none → seats xs o ≡ none
+  known-open e = sym (starts-at (size (loopOf f)) xs o (known e .inside)) ∙ known e .free
 
 -- ---- dependences, then conflicts
 
@@ -120,17 +109,17 @@ module _ (f : List ℕ) (ii h : ℕ) (xs rows : List ℕ) (b : Board f ii h xs r
   pub place-early : (r : Refusal) → firstRefusal (common f h o t xs) ≡ some r → firstRefusal (checks (setupAs f ii h) (place o t) (bare f xs)) ≡ some r
   place-early r e = refusal-early (common f h o t xs) later r e
 
-  module _ (known : firstRefusal (common f h o t xs) ≡ none) where
+  module _ (so-far : firstRefusal (common f h o t xs) ≡ none) where
     -- by a broken dependence
     pub place-broken : (e : ℕ) → firstBreach (loopOf f) ii (seats xs) o t ≡ some e
         → firstRefusal (checks (setupAs f ii h) (place o t) (bare f xs)) ≡ some (record { number = 16; detail = e })
-    place-broken e q = refusal-append (common f h o t xs) later known ∙ found-refused 16 _ e _ (ap (λ (g : Placing). firstBreach (loopOf f) ii g o t) same ∙ q)
+    place-broken e q = refusal-append (common f h o t xs) later so-far ∙ found-refused 16 _ e _ (ap (λ (g : Placing). firstBreach (loopOf f) ii g o t) same ∙ q)
 
     module _ (held : firstBreach (loopOf f) ii (seats xs) o t ≡ none) where
       -- the conflicts decide
       place-held : firstRefusal (checks (setupAs f ii h) (place o t) (bare f xs)) ≡ firstRefusal (check (conflicts (loopOf f) ii (seats xs) o t) 17 0 ∷ [])
       place-held =
-          refusal-append (common f h o t xs) later known ∙ found-passed 16 _ _ (ap (λ (g : Placing). firstBreach (loopOf f) ii g o t) same ∙ held)
+          refusal-append (common f h o t xs) later so-far ∙ found-passed 16 _ _ (ap (λ (g : Placing). firstBreach (loopOf f) ii g o t) same ∙ held)
           ∙ ap (λ (g : Placing). firstRefusal (check (conflicts (loopOf f) ii g o t) 17 0 ∷ [])) same
 
       -- nothing is taken
@@ -139,7 +128,7 @@ module _ (f : List ℕ) (ii h : ℕ) (xs rows : List ℕ) (b : Board f ii h xs r
           let ok : LoopOk (loopOf f) = accepted-ok f (b .accepted) in
           place-held
           ∙ none-last _
-          (free-conflict (loopOf f) ii (seats xs) o t ok (b .numbers .some) (known-inside f h o t xs known) (known-open f h o t xs known) rows (b .held)
+          (free-conflict (loopOf f) ii (seats xs) o t ok (b .numbers .some) (known f h o t xs so-far .inside) (known-open f h o t xs so-far) rows (b .held)
           (legal-digits (loopOf f) ii (seats xs) ok (b .sane .fine)) e)
 
       -- something is
@@ -154,7 +143,7 @@ module _ (f : List ℕ) (ii h : ℕ) (xs rows : List ℕ) (b : Board f ii h xs r
           pick true q = refl
           pick false q =
               absurd
-              (n (conflict-free (loopOf f) ii (seats xs) o t ok (b .numbers .some) (known-inside f h o t xs known) (known-open f h o t xs known) rows (b .held)
+              (n (conflict-free (loopOf f) ii (seats xs) o t ok (b .numbers .some) (known f h o t xs so-far .inside) (known-open f h o t xs so-far) rows (b .held)
               (legal-digits (loopOf f) ii (seats xs) ok (b .sane .fine)) q))
 
 -- ---- forcing
@@ -167,15 +156,15 @@ module _ (f : List ℕ) (ii h : ℕ) (xs : List ℕ) (o t : ℕ) where
   pub force-early : (r : Refusal) → firstRefusal (common f h o t xs) ≡ some r → firstRefusal (checks (setupAs f ii h) (force o t) (bare f xs)) ≡ some r
   force-early r e = refusal-early (common f h o t xs) own r e
 
-  module _ (known : firstRefusal (common f h o t xs) ≡ none) (n : ℕ) where
+  module _ (so-far : firstRefusal (common f h o t xs) ≡ none) (n : ℕ) where
     -- by a dependence of the operation with itself
     pub force-broken : (e : ℕ) → firstBreach (loopOf f) ii (seats (replicate n 65535)) o t ≡ some e
         → firstRefusal (checks (setupAs f ii h) (force o t) (bare f xs)) ≡ some (record { number = 16; detail = e })
-    force-broken e q = refusal-append (common f h o t xs) own known ∙ found-refused 16 _ e _ (ap (λ (g : Placing). firstBreach (loopOf f) ii g o t) (sym (blank-nowhere n)) ∙ q)
+    force-broken e q = refusal-append (common f h o t xs) own so-far ∙ found-refused 16 _ e _ (ap (λ (g : Placing). firstBreach (loopOf f) ii g o t) (sym (blank-nowhere n)) ∙ q)
 
     module _ (held : firstBreach (loopOf f) ii (seats (replicate n 65535)) o t ≡ none) where
       force-held : firstRefusal (checks (setupAs f ii h) (force o t) (bare f xs)) ≡ firstRefusal (check (selfConflict ii (opAt (loopOf f) o)) 17 0 ∷ [])
-      force-held = refusal-append (common f h o t xs) own known ∙ found-passed 16 _ _ (ap (λ (g : Placing). firstBreach (loopOf f) ii g o t) (sym (blank-nowhere n)) ∙ held)
+      force-held = refusal-append (common f h o t xs) own so-far ∙ found-passed 16 _ _ (ap (λ (g : Placing). firstBreach (loopOf f) ii g o t) (sym (blank-nowhere n)) ∙ held)
 
       -- by a use that is longer than the interval
       pub force-clash : selfConflict ii (opAt (loopOf f) o) ≡ true → firstRefusal (checks (setupAs f ii h) (force o t) (bare f xs)) ≡ some (record { number = 17; detail = 0 })

@@ -8,7 +8,7 @@ use Prim.Native.Nat.{ℕ, _+_, _<_}
 use native.Mathlib.Decide.{ℕ-discrete, decLt}
 use native.Mathlib.Omega.{arith}
 use borrow.Author.Tests.{eq-eqb, ne-eqb, lt-ltb, le-ltb}
-use lib.Dec.{eqb, ltb}
+use lib.Dec.{eqb}
 use lib.ListN.{length, getD, set, drop}
 use lib.Seq.{getD-set-same, getD-set-other, ext-getD}
 use Rattle.model.specs.Loop.{size}
@@ -21,42 +21,30 @@ use Rattle.reservation.specs.Seats.{seats}
 use Rattle.reservation.proofs.Seats.{seat-none}
 use Rattle.board.specs.Board.{Sane, Board, IsPut}
 use Rattle.board.specs.Moves.{Thinned, Agrees, Restored}
-use Rattle.board.proofs.Boards.{Fewer, sane-near, put-seats, part-seats, board-inside, part-board, lift-board}
+use Rattle.board.proofs.Boards.{Fewer, sane-near, put-seats, turn-next, part-seats, board-inside, part-board, lift-board}
 
 -- ---- taking out
-
--- what is left of the number x of operation q, where w is wanted, after the turns of the first k operations
-abbrev thin : (k q x w : ℕ) → ℕ
-thin k q x w = cond (ltb q k) (cond (eqb x w) x 65535) x
-
--- before its turn it is as it was
-thin-before : (k x w : ℕ) → thin k k x w ≡ x
-thin-before k x w = rw (le-ltb k k (omega arith))
-
--- after its turn it is there only if it is the one that is wanted
-thin-after : (k x w : ℕ) → thin (k + 1) k x w ≡ cond (eqb x w) x 65535
-thin-after k x w = rw (lt-ltb k (k + 1) (omega arith))
-
--- the turn of another changes nothing
-thin-other : (k q x w : ℕ) → (q ≡ k → ⊥) → thin (k + 1) q x w ≡ thin k q x w
-thin-other k q x w n = pick (decLt q k)
-  where
-    pick : Dec (q < k) → thin (k + 1) q x w ≡ thin k q x w
-    pick (yes l) = rw (lt-ltb q k l, lt-ltb q (k + 1) (omega arith))
-    pick (no m) = rw (le-ltb q k (omega arith), le-ltb q (k + 1) (omega arith))
 
 -- at first nothing is taken out
 pub thin-begin : {f : List ℕ} {ii : ℕ} {xs rows : List ℕ} (wanted : List ℕ) → Board f ii 4096 xs rows → Thinned f ii 0 wanted xs rows xs rows
 thin-begin wanted b = record { at = λ p. rw (le-ltb p 0 (omega arith)); board = b; rest = refl }
 
 module _ {f : List ℕ} {ii p : ℕ} {wanted xs₀ rows₀ xs rows : List ℕ} (t : Thinned f ii p wanted xs₀ rows₀ xs rows) where
+  -- what stands in place q, by whether it has had its turn
+  abbrev thinned : Bool → ℕ → ℕ
+  thinned b q = cond b (cond (eqb (getD xs₀ q 65535) (getD wanted q 65535)) (getD xs₀ q 65535) 65535) (getD xs₀ q 65535)
+
   -- operation p is as it was
   thin-here : getD xs p 65535 ≡ getD xs₀ p 65535
-  thin-here = t .at p ∙ thin-before p (getD xs₀ p 65535) (getD wanted p 65535)
+  thin-here = t .at p ∙ ap (λ (b : Bool). thinned b p) (le-ltb p p (omega arith))
 
   -- a turn: operation p is not placed or is where it is wanted, and is left
   pub thin-keep : (getD xs p 65535 ≡ 65535) ⊎ (getD xs p 65535 ≡ getD wanted p 65535) → Thinned f ii (p + 1) wanted xs₀ rows₀ xs rows
-  thin-keep h = record { at = λ q. go q (ℕ-discrete q p); board = t .board; rest = t .rest }
+  thin-keep h = record {
+    at = turn-next thinned p xs xs (t .at) (thin-here ∙ sym (stays (getD xs₀ p 65535) (getD wanted p 65535) (rw (← thin-here) h))) (λ q n. refl);
+    board = t .board;
+    rest = t .rest;
+  }
     where
       stays : (x w : ℕ) → (x ≡ 65535) ⊎ (x ≡ w) → cond (eqb x w) x 65535 ≡ x
       stays x w (inl e) = pick (eqb x w)
@@ -66,29 +54,17 @@ module _ {f : List ℕ} {ii p : ℕ} {wanted xs₀ rows₀ xs rows : List ℕ} (
           pick false = sym e
       stays x w (inr e) = rw (eq-eqb x w e)
 
-      here : getD xs p 65535 ≡ thin (p + 1) p (getD xs₀ p 65535) (getD wanted p 65535)
-      here =
-          thin-here
-          ∙ sym (stays (getD xs₀ p 65535) (getD wanted p 65535) (rw (← thin-here) h))
-          ∙ sym (thin-after p (getD xs₀ p 65535) (getD wanted p 65535))
-
-      go : (q : ℕ) → Dec (q ≡ p) → getD xs q 65535 ≡ thin (p + 1) q (getD xs₀ q 65535) (getD wanted q 65535)
-      go q (yes e) = rw e here
-      go q (no n) = t .at q ∙ sym (thin-other p q (getD xs₀ q 65535) (getD wanted q 65535) n)
-
   -- a turn: operation p is elsewhere, and is taken out
   pub thin-lift : {xs′ rows′ : List ℕ} → p < length xs → (getD xs p 65535 ≡ getD wanted p 65535 → ⊥) → IsPut f ii p 65535 xs rows xs′ rows′
       → Thinned f ii (p + 1) wanted xs₀ rows₀ xs′ rows′
-  thin-lift {xs′} l n i = record { at = λ q. rw (i .starts-are) (go q (ℕ-discrete q p)); board = lift-board (t .board) i; rest = i .rest ∙ t .rest }
+  thin-lift {xs′} l n i = record {
+    at = λ q. rw (i .starts-are) (turn-next thinned p xs (set xs p 65535) (t .at) gone (λ q d. getD-set-other xs p q 65535 65535 d) q);
+    board = lift-board (t .board) i;
+    rest = i .rest ∙ t .rest;
+  }
     where
-      here : getD (set xs p 65535) p 65535 ≡ thin (p + 1) p (getD xs₀ p 65535) (getD wanted p 65535)
-      here =
-          getD-set-same xs p 65535 65535 l
-          ∙ sym (thin-after p (getD xs₀ p 65535) (getD wanted p 65535) ∙ rw (ne-eqb (getD xs₀ p 65535) (getD wanted p 65535) (λ e. n (thin-here ∙ e))))
-
-      go : (q : ℕ) → Dec (q ≡ p) → getD (set xs p 65535) q 65535 ≡ thin (p + 1) q (getD xs₀ q 65535) (getD wanted q 65535)
-      go q (yes e) = rw e here
-      go q (no d) = getD-set-other xs p q 65535 65535 d ∙ t .at q ∙ sym (thin-other p q (getD xs₀ q 65535) (getD wanted q 65535) d)
+      gone : getD (set xs p 65535) p 65535 ≡ thinned true p
+      gone = getD-set-same xs p 65535 65535 l ∙ sym (rw (ne-eqb (getD xs₀ p 65535) (getD wanted p 65535) (λ e. n (thin-here ∙ e))))
 
 -- at the end each operation is where it is wanted, or not placed
 pub thin-end : {f : List ℕ} {ii : ℕ} {wanted xs rows xs′ rows′ : List ℕ} → Thinned f ii (size (loopOf f)) wanted xs rows xs′ rows′ → Agrees 0 wanted xs′

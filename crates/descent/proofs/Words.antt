@@ -14,7 +14,8 @@ use borrow.Author.Tests.{eqb-true, eq-eqb, ne-eqb, lt-ltb, le-ltb}
 use Rattle.model.specs.Lists.{upFrom, Below, anyOf, first, countIf, sumOf}
 use Rattle.model.specs.Search.{words, whole, answer, notAfter}
 use Rattle.descent.specs.Tree.{tree, over}
-use Rattle.model.proofs.Lists.{and-left, and-right, and-both, or-false-left, or-false-right, any-map, first-later, none-first, count-flatMap, sum-none, sum-around, sum-some, count-map, count-never}
+use Rattle.model.proofs.Sums.{sum-last}
+use Rattle.model.proofs.Lists.{and-left, and-right, and-both, or-false-left, or-false-right, any-map, first-later, none-first, count-flatMap, sum-none, sum-around, count-map, count-never}
 use Rattle.model.proofs.Firsts.{first-early, first-map}
 
 -- ---- lists of numbers
@@ -144,7 +145,7 @@ pub words-only : (h n : ℕ) (q : List ℕ) → 1 ≤ countIf (sameList q) (word
 unfolding words countIf
 words-only h zero q l = absurd (omega arith)
 words-only h (suc n) q l =
-    let w = sum-some (share h n q) 0 h (omega (arith, words-sum h n q)) in word-of h n (w .0) q (omega (arith, w .1)) (w .2) (words-only h n)
+    let w = sum-last (share h n q) h (omega (arith, words-sum h n q)) in word-of h n (w .0) q (w .1) (w .2) (words-only h n)
 
 -- ---- each such list is a word, once
 

@@ -3,7 +3,7 @@ use mathlib.Core.Path.{_≡_, refl, sym, ap, _∙_}
 use mathlib.Core.Bool.{Bool, true, false, cond, _&&_}
 use mathlib.Core.List.{List, [], _∷_}
 use Prim.Native.Nat.{ℕ, zero, suc, _+_, _-_, _%_, _≤_, _<_, min}
-use native.Mathlib.Nat.{add-assoc, add-mod-right, mod-lt}
+use native.Mathlib.Nat.{zero-add, add-assoc, add-mod-right, mod-lt}
 use native.Mathlib.Numerals.{add-one}
 use native.Mathlib.Decide.{ℕ-discrete, decLt, decLe}
 use native.Mathlib.Omega.{arith}
@@ -121,13 +121,11 @@ covers-count p u (suc n) = rw add-one at (count-next (λ k. covers k u && p k) n
 cycle-count : (s r row k : ℕ) (us : List Use) → countOf s r (cellsIn row k us) ≡ countIf (λ u. covers k u && (eqb s (u .slot) && eqb r row)) us
 unfolding cellsIn countIf
 cycle-count s r row k [] = refl
-cycle-count s r row k (u ∷ us) = pick (covers k u) (cycle-count s r row k us)
+cycle-count s r row k (u ∷ us) = step (covers k u) (cellsIn row k us) ∙ ap (λ (n : ℕ). cond (covers k u && (eqb s (u .slot) && eqb r row)) 1 0 + n) (cycle-count s r row k us)
   where
-    pick : (b : Bool) → countOf s r (cellsIn row k us) ≡ countIf (λ u. covers k u && (eqb s (u .slot) && eqb r row)) us
-        → countOf s r (cond b (record { slot = u .slot; row = row } ∷ cellsIn row k us) (cellsIn row k us))
-        ≡ cond (b && (eqb s (u .slot) && eqb r row)) 1 0 + countIf (λ u. covers k u && (eqb s (u .slot) && eqb r row)) us
-    pick true ih = rw ih
-    pick false ih = ih ∙ omega arith
+    step : (b : Bool) (cs : List Cell) → countOf s r (cond b (record { slot = u .slot; row = row } ∷ cs) cs) ≡ cond (b && (eqb s (u .slot) && eqb r row)) 1 0 + countOf s r cs
+    step true cs = refl
+    step false cs = sym (zero-add (countOf s r cs))
 
 -- over the 16 cycles of an operation a use counts its own
 use-count : (ii t s r : ℕ) (u : Use) → UseOk u → countIf (λ k. covers k u && (eqb s (u .slot) && eqb r ((t + k) % ii))) (upFrom 0 16) ≡ useCount ii t s r u

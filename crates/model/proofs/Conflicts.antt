@@ -5,7 +5,7 @@ use mathlib.Core.List.{List, []}
 use mathlib.Core.Logic.{_⊎_, inl, inr}
 use mathlib.Core.Option.{Option, none, some}
 use Prim.Native.Nat.{ℕ, zero, suc, _+_, _%_, _≤_, _<_}
-use native.Mathlib.Decide.{ℕ-discrete}
+use native.Mathlib.Decide.{ℕ-discrete, decLe}
 use native.Mathlib.Nat.{eq-or-lt-of-le, le-of-suc-le-suc}
 use native.Mathlib.Omega.{arith}
 use borrow.Author.Tests.{ltb-false, eqb-true, le-ltb, eq-eqb, ne-eqb}
@@ -16,9 +16,9 @@ use Rattle.model.specs.Loop.{Use, Op, Loop, noUse, size, opAt, useAt, Op
 use Rattle.model.specs.Legality.{Placing, Cell, sameCell, footprint, share, conflict, selfConflict, conflictAt, selfConflictAt, pairConflict, apart, conflictsWith}
 use Rattle.model.specs.Table.{countOf, opCells, cellsOf}
 use Rattle.model.specs.Counts.{cyclesIn}
-use Rattle.model.proofs.Lists.{and-left, and-right, same-test, any-flatMap, any-at, at-any, count-flatMap, count-none, none-count, count-never, count-before, count-last, one-sum, two-sum, sum-one, sum-some}
+use Rattle.model.proofs.Lists.{and-left, and-right, same-test, any-flatMap, any-at, at-any, count-flatMap, count-none, none-count, count-never, count-before, count-last, one-sum, two-sum}
 use Rattle.model.proofs.Cells.{useCount, cycles-once, once-cycles, footprint-count, cells-each, each-cells}
-use Rattle.model.proofs.Sums.{sum-only}
+use Rattle.model.proofs.Sums.{sum-last, sum-only}
 use Rattle.model.proofs.Legality.{apart-each, each-apart}
 
 -- ---- cells in common
@@ -81,13 +81,13 @@ module _ (ii : ℕ) (p : Op) (t : ℕ) (ok : OpOk p) where
   -- a cell of the footprint is one that a use covers
   pub cell-hit : (s r : ℕ) → 1 ≤ countOf s r (footprint ii p t) → (j : ℕ) × (i : ℕ) × Hit ii p t s r j i
   cell-hit s r h =
-      let w = sum-some (λ j. useCount ii t s r (useAt p j)) 0 (length (p .uses)) (rw (footprint-count ii t p ok s r) at h) in
+      let w = sum-last (λ j. useCount ii t s r (useAt p j)) (length (p .uses)) (rw (footprint-count ii t p ok s r) at h) in
       let u : Use = useAt p (w .0) in
       let v = count-last (λ i. eqb s (u .slot) && eqb r ((t + u .offset + i) % ii)) (u .duration) (w .2) in (
         w .0,
         v .0,
         record {
-          inside = omega (arith, w .1);
+          inside = w .1;
           slot = sym (eqb-true s _ (and-left (eqb s (u .slot)) _ (v .2)));
           going = v .1;
           row = sym (eqb-true r _ (and-right (eqb s (u .slot)) _ (v .2)));
@@ -156,16 +156,16 @@ module _ (l : Loop) (ii : ℕ) (f : Placing) where
 
   -- where no pair conflicts no cell occurs twice
   pub apart-once : LoopOk l → apart l ii f ≡ true → (s r : ℕ) → countOf s r (cellsOf l ii f) ≤ 1
-  apart-once ok e s r =
-      rw cells-sum
-      (sum-one (cellsAt s r) 0 (size l) (λ o m n. placed-once ii (opAt l o) (f o) (ok .op-ok o (omega arith)) (self o (omega arith)) s r)
-      (λ a b m n o h. apart-cells (opCells ii (opAt l a) (f a)) (opCells ii (opAt l b) (f b)) (sym (conflict-share ii _ _ (f a) (f b)) ∙ other a b n (omega arith)) s r h))
+  apart-once ok e s r = rw cells-sum (pick (decLe (sumOf (cellsAt s r) (upFrom 0 (size l))) 1))
     where
-      self : (o : ℕ) → o < size l → selfConflictAt ii (opAt l o) (f o) ≡ false
-      self o m = rw (eq-eqb o o refl) at (apart-each l ii f e o o (omega arith) m)
-
-      other : (a b : ℕ) → a < b → b < size l → conflictAt ii (opAt l a) (f a) (opAt l b) (f b) ≡ false
-      other a b m n = rw (ne-eqb a b (λ q. omega arith)) at (apart-each l ii f e a b (omega arith) n)
+      pick : Dec (sumOf (cellsAt s r) (upFrom 0 (size l)) ≤ 1) → sumOf (cellsAt s r) (upFrom 0 (size l)) ≤ 1
+      pick (yes h) = h
+      pick (no n) =
+          let b = sum-last (cellsAt s r) (size l) (omega arith) in
+          let one = placed-once ii (opAt l (b .0)) (f (b .0)) (ok .op-ok (b .0) (b .1)) (rw (eq-eqb (b .0) (b .0) refl) at (apart-each l ii f e (b .0) (b .0) (omega arith) (b .1))) s r in
+          let a = sum-last (cellsAt s r) (b .0) (omega (arith, b .3)) in
+          let other = rw (ne-eqb (a .0) (b .0) (λ q. omega (arith, a .1))) at (apart-each l ii f e (a .0) (b .0) (omega (arith, a .1)) (b .1)) in
+          absurd (omega (arith, b .2, apart-cells _ (opCells ii (opAt l (b .0)) (f (b .0))) (sym (conflict-share ii (opAt l (a .0)) _ (f (a .0)) (f (b .0))) ∙ other) s r (a .2)))
 
   -- and the other way round
   pub once-apart : LoopOk l → 1 ≤ ii → ((s r : ℕ) → countOf s r (cellsOf l ii f) ≤ 1) → apart l ii f ≡ true

@@ -66,28 +66,32 @@ pub within-part : (cap : Capacity) (l : Loop) (ii : ℕ) (f g : Placing) → Par
 within-part cap l ii f g p e = each-within cap l ii f (λ s r. omega (arith, used-part l ii f g p s r, within-each cap l ii g e s r))
 
 -- and legal where all are
-pub part-within : (cap : Capacity) (l : Loop) (ii : ℕ) (f g : Placing) → Part f g → legalWithin cap l ii g ≡ true → legalWithin cap l ii f ≡ true
+pub legal-within-part : (cap : Capacity) (l : Loop) (ii : ℕ) (f g : Placing) → Part f g → legalWithin cap l ii g ≡ true → legalWithin cap l ii f ≡ true
 unfolding legalWithin
-part-within cap l ii f g p e =
+legal-within-part cap l ii f g p e =
     and-both (meets l ii f) (within cap l ii f) (meets-part l ii f g p (and-left (meets l ii g) (within cap l ii g) e))
     (within-part cap l ii f g p (and-right (meets l ii g) (within cap l ii g) e))
 
 -- ---- one operation more
 
 module _ (l : Loop) (ii : ℕ) (f : Placing) (o t : ℕ) (inside : o < size l) (open-yet : f o ≡ none) where
-  -- it uses its footprint besides
+  -- its own cells
+  abbrev own : List Cell
+  own = footprint ii (opAt l o) t
+
+  -- it uses them besides
   pub used-place : (s r : ℕ) → used l ii (placeAt f o t) s r ≡ countOf s r (footprint ii (opAt l o) t) + used l ii f s r
   unfolding countIf
   used-place s r =
       cells-sum l ii (placeAt f o t) s r
-      ∙ sum-same _ (λ p. own p + cellsAt l ii f s r p) 0 (size l) (λ p a b. go p (ℕ-discrete p o))
-      ∙ sum-add own (cellsAt l ii f s r) (upFrom 0 (size l))
-      ∙ ap₂ _+_ (sum-only own (size l) o inside (λ p m n. rw (ne-eqb p o n)) ∙ rw (eq-eqb o o refl)) (sym (cells-sum l ii f s r))
+      ∙ sum-same _ (λ p. more p + cellsAt l ii f s r p) 0 (size l) (λ p a b. go p (ℕ-discrete p o))
+      ∙ sum-add more (cellsAt l ii f s r) (upFrom 0 (size l))
+      ∙ ap₂ _+_ (sum-only more (size l) o inside (λ p m n. rw (ne-eqb p o n)) ∙ rw (eq-eqb o o refl)) (sym (cells-sum l ii f s r))
     where
-      own : ℕ → ℕ
-      own p = cond (eqb p o) (countOf s r (footprint ii (opAt l o) t)) 0
+      more : ℕ → ℕ
+      more p = cond (eqb p o) (countOf s r own) 0
 
-      go : (p : ℕ) → Dec (p ≡ o) → cellsAt l ii (placeAt f o t) s r p ≡ own p + cellsAt l ii f s r p
+      go : (p : ℕ) → Dec (p ≡ o) → cellsAt l ii (placeAt f o t) s r p ≡ more p + cellsAt l ii f s r p
       go p (yes e) = rw (e, eq-eqb o o refl, open-yet) (omega arith)
       go p (no n) = rw (ne-eqb p o n) (omega arith)
 
@@ -106,14 +110,11 @@ module _ (l : Loop) (ii : ℕ) (f : Placing) (o t : ℕ) (inside : o < size l) (
         within-each cap l ii f (and-left (within cap l ii f) _ e) s r,
         room-each cap (used l ii f) own (and-right (within cap l ii f) _ e) s r,
       )))
-    where
-      own : List Cell
-      own = footprint ii (opAt l o) t
 
   -- and legal exactly where it was legal and the operation fits
-  pub place-within : (cap : Capacity) → legalWithin cap l ii (placeAt f o t) ≡ (legalWithin cap l ii f && fitsWithin cap l ii f o t)
+  pub legal-within-place : (cap : Capacity) → legalWithin cap l ii (placeAt f o t) ≡ (legalWithin cap l ii f && fitsWithin cap l ii f o t)
   unfolding legalWithin fitsWithin
-  place-within cap =
+  legal-within-place cap =
       ap₂ _&&_ (meets-place l ii f o t open-yet) (within-place cap)
       ∙ swap (meets l ii f) (not (anyOf (breaks ii f o t) (l .deps))) (within cap l ii f) (roomFor cap l ii f o t)
     where
@@ -142,19 +143,16 @@ module _ (l : Loop) (ii : ℕ) (ok : LoopOk l) (pos : 1 ≤ ii) where
   pub room-conflicts : (f : Placing) (o t : ℕ) → o < size l → f o ≡ none → roomFor single l ii f o t ≡ not (conflicts l ii f o t)
   unfolding roomFor
   room-conflicts f o t inside open-yet =
-      same-true (room single (used l ii f) own) (not (conflicts l ii f o t))
+      same-true (room single (used l ii f) (footprint ii (opAt l o) t)) (not (conflicts l ii f o t))
       (λ e. false-not (conflicts l ii f o t) (or-both (selfConflict ii (opAt l o)) _
-      (once-self ii (opAt l o) t (ok .op-ok o inside) pos (λ s r. omega (arith, room-each single (used l ii f) own e s r)))
-      (sym (share-place l ii f o t open-yet) ∙ cells-apart own (cellsOf l ii f) (λ s r h. omega (arith, room-each single (used l ii f) own e s r)))))
-      (λ e. let c = not-true (conflicts l ii f o t) e in each-room single (used l ii f) own (λ s r h.
+      (once-self ii (opAt l o) t (ok .op-ok o inside) pos (λ s r. omega (arith, room-each single (used l ii f) (footprint ii (opAt l o) t) e s r)))
+      (sym (share-place l ii f o t open-yet) ∙ cells-apart (footprint ii (opAt l o) t) (cellsOf l ii f) (λ s r h. omega (arith, room-each single (used l ii f) (footprint ii (opAt l o) t) e s r)))))
+      (λ e. let c = not-true (conflicts l ii f o t) e in each-room single (used l ii f) (footprint ii (opAt l o) t) (λ s r h.
       omega (
         arith,
         self-once ii (opAt l o) t (ok .op-ok o inside) (or-false-left (selfConflict ii (opAt l o)) _ c) s r,
-        apart-cells own (cellsOf l ii f) (share-place l ii f o t open-yet ∙ or-false-right (selfConflict ii (opAt l o)) _ c) s r h,
+        apart-cells (footprint ii (opAt l o) t) (cellsOf l ii f) (share-place l ii f o t open-yet ∙ or-false-right (selfConflict ii (opAt l o)) _ c) s r h,
       )))
-    where
-      own : List Cell
-      own = footprint ii (opAt l o) t
 
   -- so it fits at capacity 1 exactly where it fits
   pub fits-single : (f : Placing) (o t : ℕ) → o < size l → f o ≡ none → fitsWithin single l ii f o t ≡ fitsAt l ii f o t
@@ -165,12 +163,12 @@ module _ (l : Loop) (ii : ℕ) (ok : LoopOk l) (pos : 1 ≤ ii) where
 
   -- what is legal for all is legal for some
   pub legal-part : (f g : Placing) → Part f g → legalAt l ii g ≡ true → legalAt l ii f ≡ true
-  legal-part f g p e = sym (legal-single f) ∙ part-within single l ii f g p (legal-single g ∙ e)
+  legal-part f g p e = sym (legal-single f) ∙ legal-within-part single l ii f g p (legal-single g ∙ e)
 
   -- a placing with one operation more is legal exactly where it was legal and the operation fits
   pub legal-place : (f : Placing) (o t : ℕ) → o < size l → f o ≡ none → legalAt l ii (placeAt f o t) ≡ (legalAt l ii f && fitsAt l ii f o t)
   legal-place f o t inside open-yet =
-      sym (legal-single (placeAt f o t)) ∙ place-within l ii f o t inside open-yet single ∙ ap₂ _&&_ (legal-single f) (fits-single f o t inside open-yet)
+      sym (legal-single (placeAt f o t)) ∙ legal-within-place l ii f o t inside open-yet single ∙ ap₂ _&&_ (legal-single f) (fits-single f o t inside open-yet)
 
   -- nothing placed is legal
   pub legal-nothing : (f : Placing) → ((o : ℕ) → f o ≡ none) → legalAt l ii f ≡ true

@@ -103,11 +103,8 @@ module _ {A : Type 0} (q : ℕ → A → Bool) (xs : List A) where
       ∙ first-later passes (flatMap paired (upFrom 0 (k - 0))) (flatMap paired (k ∷ rest)) (none-first passes (flatMap paired (upFrom 0 (k - 0))) (grid-not (k - 0) (λ j m. h j (omega arith))))
       ∙ first-early passes (paired k) (flatMap paired rest) (k, x) (first-map passes (λ y. (k, y)) xs x e)
 
--- nothing is found exactly where no number passes with an element
 module _ {A : Type 0} (q : ℕ → A → Bool) (xs : List A) (d : A) (n : ℕ) where
-  pub grid-none : ((k j : ℕ) → k < n → j < length xs → q k (getD xs j d) ≡ false) → first (passes q xs) (flatMap (paired q xs) (upFrom 0 n)) ≡ none
-  grid-none h = grid-not q xs n (λ k l. first-not (q k) xs d (λ j m. h k j l m))
-
+  -- where nothing is found, no number passes with an element
   pub none-grid : first (passes q xs) (flatMap (paired q xs) (upFrom 0 n)) ≡ none → (k j : ℕ) → k < n → j < length xs → q k (getD xs j d) ≡ false
   none-grid e k j l m =
       let all : anyOf (λ c. anyOf (passes q xs) (paired q xs c)) (upFrom 0 n) ≡ false = sym (any-flatMap (passes q xs) (paired q xs) (upFrom 0 n)) ∙ none-first (passes q xs) _ e in

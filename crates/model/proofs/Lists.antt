@@ -411,30 +411,6 @@ pub two-sum : (g : ℕ → ℕ) (n j k : ℕ) → j < k → k < n → g j + g k 
 two-sum g n j k l m =
     omega (arith, sum-around g 0 n j (omega arith) (omega arith), sum-around g (suc j) (0 + n - suc j) k l (omega arith))
 
--- a sum is at most 1 where each term is, and of any two one is 0
-pub sum-one : (g : ℕ → ℕ) (a n : ℕ) → ((k : ℕ) → a ≤ k → k < a + n → g k ≤ 1)
-    → ((j k : ℕ) → a ≤ j → j < k → k < a + n → 1 ≤ g j → g k ≡ 0) → sumOf g (upFrom a n) ≤ 1
-unfolding sumOf upFrom
-sum-one g a zero each two = omega arith
-sum-one g a (suc n) each two =
-    pick (ℕ-discrete (g a) 0) (sum-one g (suc a) n (λ k l m. each k (omega arith) (omega arith)) (λ j k l m o. two j k (omega arith) m (omega arith)))
-  where
-    pick : Dec (g a ≡ 0) → sumOf g (upFrom (suc a) n) ≤ 1 → g a + sumOf g (upFrom (suc a) n) ≤ 1
-    pick (yes e) ih = omega arith
-    pick (no ne) ih =
-        omega (arith, each a (omega arith) (omega arith), sum-none g (suc a) n (λ k l m. two a k (omega arith) (omega arith) (omega arith) (omega arith)))
-
--- a sum that is not 0 has a term that is not
-pub sum-some : (g : ℕ → ℕ) (a n : ℕ) → 1 ≤ sumOf g (upFrom a n) → (k : ℕ) × (k < a + n) × (1 ≤ g k)
-unfolding sumOf upFrom
-sum-some g a zero h = absurd (omega arith)
-sum-some g a (suc n) h = pick (ℕ-discrete (g a) 0) (sum-some g (suc a) n)
-  where
-    pick : Dec (g a ≡ 0) → (1 ≤ sumOf g (upFrom (suc a) n) → (k : ℕ) × (k < suc a + n) × (1 ≤ g k))
-        → (k : ℕ) × (k < a + suc n) × (1 ≤ g k)
-    pick (yes e) ih = let w = ih (omega arith) in (w .0, omega (arith, w .1), w .2)
-    pick (no ne) ih = (a, omega arith, omega arith)
-
 -- a sum that begins one later
 sum-shift : (g : ℕ → ℕ) (a n : ℕ) → sumOf g (upFrom (suc a) n) ≡ sumOf (λ j. g (suc j)) (upFrom a n)
 unfolding sumOf upFrom

@@ -4,7 +4,7 @@ use mathlib.Core.Path.{_≡_, refl, sym, ap, _∙_}
 use mathlib.Core.Bool.{Bool, true, false, not, _&&_, _||_}
 use Prim.Native.Nat.{ℕ, zero, suc, _+_, _-_, _*_, _%_, _^_, _≤_, _<_}
 use native.Mathlib.Omega.{arith}
-use lib.IntN.{ℤ, pos, negsuc, natAbs, negℤ, subℕ, _+ℤ_, _-ℤ_, _*ℤ_}
+use lib.IntN.{ℤ, pos, negsuc, natAbs, negℤ, subℕ, _+ℤ_, _-ℤ_}
 use lib.Dec.{T, leb, ltb, ltb→lt, lt→ltb, nltb→le, leb→le, le→leb, nleb→lt}
 use lib.Signed.{nonNeg, leZ, ltZ, _≤ℤ_, _<ℤ_, leZ-yes, ltZ-yes}
 use borrow.Author.Tests.{ltb-true, lt-ltb, le-ltb, le-leb, lt-leb}
@@ -116,10 +116,6 @@ le-as {a} {b} {c} {d} p q h k e = is-leZ h k ∙ leb-same (a + d) (c + b) p q (�
 pub lt-as : {x y : ℤ} {a b c d : ℕ} (p q : ℕ) → Is x a b → Is y c d → p + (c + b) ≡ q + (a + d) → ltZ x y ≡ ltb p q
 lt-as {a} {b} {c} {d} p q h k e = is-ltZ h k ∙ leb-same (suc (a + d)) (c + b) (suc p) q (λ o. omega arith) (λ o. omega arith)
 
--- a product of two that are not negative
-pub is-mul : {x y : ℤ} {a c : ℕ} → Is x a 0 → Is y c 0 → Is (x *ℤ y) (a * c) 0
-is-mul {a = a} {c = c} h k = rw (is-eq h (is-pos a) (omega arith), is-eq k (is-pos c) (omega arith)) (is-pos (a * c))
-
 -- an equal number
 pub is-of : {x y : ℤ} {a b : ℕ} → x ≡ y → Is y a b → Is x a b
 is-of e h = rw e h
@@ -226,9 +222,6 @@ delay-is n f h = move (byte-is n f) (omega arith)
 
 pub delay-range : (n : ℕ) → n < 256 → negsuc 63 ≤ℤ signedByte n → signedByte n ≤ℤ pos 64 → delayUp n ≤ 128
 delay-range n f p q = omega (arith, le-of (is-negsuc 63) (byte-is n f) p, le-of (byte-is n f) (is-pos 64) q)
-
-pub range-delay : (n : ℕ) → n < 256 → delayUp n ≤ 128 → (negsuc 63 ≤ℤ signedByte n) × (signedByte n ≤ℤ pos 64)
-range-delay n f h = (of-le (is-negsuc 63) (byte-is n f) (omega arith), of-le (byte-is n f) (is-pos 64) (omega arith))
 
 -- ---- the bridge: the dependence inequality in naturals
 

@@ -1,14 +1,14 @@
 -- Which operations a list of starts places, and where. Assumes nothing.
 use mathlib.Core.Path.{_≡_, refl, ap, _∙_, fun-ext}
 use mathlib.Core.List.{List, [], _∷_, _++_}
-use mathlib.Core.Option.{none, some}
+use mathlib.Core.Option.{Option, none, some}
 use Prim.Native.Nat.{ℕ, zero, suc, _≤_, _<_}
 use native.Mathlib.Nat.{le-refl, not-suc-le-zero, le-of-suc-le-suc}
 use native.Mathlib.Decide.{ℕ-discrete}
-use lib.ListN.{length, getD, take}
-use lib.Seq.{getD-take, length-take-le}
+use lib.ListN.{length, getD, set, take}
+use lib.Seq.{getD-take, length-take-le, getD-set-same, getD-set-other}
 use borrow.Author.Tests.{eq-eqb, ne-eqb}
-use Rattle.model.specs.Legality.{placed, placeAt}
+use Rattle.model.specs.Legality.{Placing, placed, placeAt}
 
 -- an operation of the list is placed
 pub placed-in : (xs : List ℕ) (o : ℕ) → o < length xs → placed xs o ≡ some (getD xs o 0)
@@ -52,3 +52,12 @@ placed-snoc xs s = fun-ext (λ o. go o (ℕ-discrete o (length xs)))
     go : (o : ℕ) → Dec (o ≡ length xs) → placed (xs ++ (s ∷ [])) o ≡ placeAt (placed xs) (length xs) s o
     go o (yes e) = rw (e, placed-last xs s, eq-eqb (length xs) (length xs) refl)
     go o (no n) = rw (placed-others xs s o n, ne-eqb o (length xs) n)
+
+-- a list that is read as starts by h, with a start put in place o, says its placing with o there
+pub set-places : {A : Type 0} (h : A → Option ℕ) (d : A) (xs : List A) (o : ℕ) (x : A) (t : ℕ) → o < length xs → h x ≡ some t
+    → _≡_ {A = Placing} (λ p. h (getD (set xs o x) p d)) (placeAt (λ p. h (getD xs p d)) o t)
+set-places h d xs o x t l e = fun-ext (λ p. go p (ℕ-discrete p o))
+  where
+    go : (p : ℕ) → Dec (p ≡ o) → h (getD (set xs o x) p d) ≡ placeAt (λ p. h (getD xs p d)) o t p
+    go p (yes q) = rw (q, getD-set-same xs o x d l, eq-eqb o o refl) e
+    go p (no n) = rw (getD-set-other xs o p x d n, ne-eqb p o n)

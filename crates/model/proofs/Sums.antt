@@ -3,6 +3,8 @@ use mathlib.Core.Path.{_≡_, refl, sym, ap, ap₂, _∙_}
 use mathlib.Core.Bool.{Bool, cond}
 use mathlib.Core.List.{List, [], _∷_, _++_, flatMap}
 use Prim.Native.Nat.{ℕ, zero, suc, _+_, _-_, _*_, _≤_, _<_, max}
+use native.Mathlib.Numerals.{add-one}
+use native.Mathlib.Decide.{ℕ-discrete}
 use native.Mathlib.Omega.{arith}
 use Rattle.model.specs.Lists.{upFrom, countIf, sumOf, maxOf}
 use Rattle.model.proofs.Lists.{upFrom-split, sum-append, sum-add, sum-none, sum-around}
@@ -36,6 +38,18 @@ unfolding sumOf upFrom
 sum-next f n =
     let e : 0 + n ≡ n = omega arith in
     ap (sumOf f) (upFrom-split 0 n 1) ∙ sum-append f (upFrom 0 n) ((0 + n) ∷ []) ∙ rw e (omega arith)
+
+-- a row that counts has a last number that does
+pub sum-last : (g : ℕ → ℕ) (n : ℕ) → 1 ≤ sumOf g (upFrom 0 n) → (k : ℕ) × (k < n) × (1 ≤ g k) × (sumOf g (upFrom 0 n) ≡ sumOf g (upFrom 0 k) + g k)
+unfolding sumOf upFrom
+sum-last g zero h = absurd (omega arith)
+sum-last g (suc n) h = pick (ℕ-discrete (g n) 0) (rw (add-one n) at (sum-next g n)) (sum-last g n)
+  where
+    pick : Dec (g n ≡ 0) → sumOf g (upFrom 0 (suc n)) ≡ sumOf g (upFrom 0 n) + g n
+        → (1 ≤ sumOf g (upFrom 0 n) → (k : ℕ) × (k < n) × (1 ≤ g k) × (sumOf g (upFrom 0 n) ≡ sumOf g (upFrom 0 k) + g k))
+        → (k : ℕ) × (k < suc n) × (1 ≤ g k) × (sumOf g (upFrom 0 (suc n)) ≡ sumOf g (upFrom 0 k) + g k)
+    pick (yes z) e ih = let w = ih (omega arith) in (w .0, omega (arith, w .1), w .2, omega (arith, w .3))
+    pick (no m) e ih = (n, omega arith, omega arith, e)
 
 -- a row of which one number alone counts
 pub sum-only : (f : ℕ → ℕ) (n k : ℕ) → k < n → ((i : ℕ) → i < n → (i ≡ k → ⊥) → f i ≡ 0) → sumOf f (upFrom 0 n) ≡ f k

@@ -5,7 +5,7 @@ use mathlib.Core.Logic.{_⊎_, inl, inr}
 use mathlib.Core.List.{List, [], _∷_, _++_, map, flatMap}
 use mathlib.Core.Option.{none}
 use Prim.Native.Nat.{ℕ, zero, suc, _+_, _-_, _*_, _/_, _%_, _^_, _≤_, _<_}
-use native.Mathlib.Nat.{add-mul, zero-mul, one-mul, zero-add, add-zero, add-comm, mul-assoc, le-refl, le-of-suc-le-suc, not-suc-le-zero, eq-or-lt-of-le, mod-eq-of-lt, one-le-pow, add-mul-div-right, add-mul-mod-self-right, pow-zero, pow-succ', pow-le-pow-right, div-eq-of-lt, sub-add-cancel}
+use native.Mathlib.Nat.{add-mul, zero-mul, one-mul, zero-add, add-zero, add-comm, mul-assoc, le-refl, le-of-suc-le-suc, not-suc-le-zero, eq-or-lt-of-le, mod-eq-of-lt, one-le-pow, add-mul-div-right, add-mul-mod-self-right, pow-zero, pow-succ', div-eq-of-lt, sub-add-cancel}
 use native.Mathlib.Decide.{ℕ-discrete}
 use native.Mathlib.Omega.{arith}
 use borrow.Author.Tests.{le-leb, eq-eqb, ne-eqb}
@@ -181,13 +181,6 @@ table-take base ii cells rows t =
     ext-getD 0 (take ii rows) (tableOf base ii cells) (e ∙ sym (length-table base ii cells))
     (λ r l. let m : r < ii = omega arith in getD-take ii rows r 0 m ∙ t .at r m ∙ sym (getD-table base ii cells r m))
 
--- and rows that begin with the table are such rows
-pub take-table : (base ii : ℕ) (cells : List Cell) (rows : List ℕ) → ii ≤ length rows → take ii rows ≡ tableOf base ii cells → IsTable base ii cells rows
-take-table base ii cells rows long e = record {
-  long = long;
-  at = λ r l. sym (getD-take ii rows r 0 l) ∙ ap (λ (x : List ℕ). getD x r 0) e ∙ getD-table base ii cells r l;
-}
-
 -- rows of zeros are the table of no cells
 pub table-nil : (base ii : ℕ) (rows : List ℕ) → ii ≤ length rows → ((r : ℕ) → r < ii → getD rows r 0 ≡ 0) → IsTable base ii [] rows
 table-nil base ii rows long h = record { long = long; at = λ r l. h r l ∙ sym (row-nil base r) }
@@ -256,13 +249,6 @@ bit-covered l ii f rows t d s r m lo hi =
 -- and no bit stands above those of the 24 slots
 pub bits-end : (ii : ℕ) (cells : List Cell) (rows : List ℕ) → IsTable 2 ii cells rows → Digits 2 cells → (r : ℕ) → r < ii → getD rows r 0 < 2 ^ 24
 bits-end ii cells rows t d r m = rw (t .at r m) (row-lt 2 r cells (λ u. d u r))
-
--- a row has room for one unit more in 64 bits
-pub row-fits : (base ii s r : ℕ) (cells : List Cell) (rows : List ℕ) → base ^ 24 + base ^ 23 ≤ 2 ^ 64 → 0 < base → IsTable base ii cells rows → Digits base cells → r < ii → s ≤ 24
-    → getD rows r 0 + base ^ (s - 1) < 2 ^ 64
-row-fits base ii s r cells rows w b t d l hi =
-    let h : s - 1 ≤ 23 = omega arith in
-    omega (arith, t .at r l, row-lt base r cells (λ u. d u r), pow-le-pow-right {n = base} b h)
 
 -- ---- nothing placed
 

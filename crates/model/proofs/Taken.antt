@@ -13,7 +13,7 @@ use Rattle.model.specs.Legality.{Placing, footprint, conflicts}
 use Rattle.model.specs.Table.{countOf}
 use Rattle.model.specs.Counts.{Capacity, single, Usage, used, room, roomFor, cyclesIn, takenAt, firstTaken}
 use Rattle.model.proofs.Lists.{false-not, count-before, count-last}
-use Rattle.model.proofs.Firsts.{grid-none, none-grid}
+use Rattle.model.proofs.Firsts.{first-not, grid-not, none-grid}
 use Rattle.model.proofs.Conflicts.{Hit, own-count, cell-hit}
 use Rattle.model.proofs.Counts.{room-each, each-room, room-conflicts}
 
@@ -37,7 +37,8 @@ module _ (cap : Capacity) (u : Usage) (ii : ℕ) (p : Op) (t : ℕ) (ok : OpOk p
 
   spare-taken : ((j i : ℕ) → j < length (p .uses) → i < useAt p j .duration → Spare j i) → firstTaken cap u ii p t ≡ none
   unfolding firstTaken
-  spare-taken h = grid-none (takenAt cap u ii t) (p .uses) noUse 16 (λ k j l m. go k j m (decLe (useAt p j .offset) k) (decLt k (useAt p j .offset + useAt p j .duration)))
+  spare-taken h =
+      grid-not (takenAt cap u ii t) (p .uses) 16 (λ k l. first-not _ (p .uses) noUse (λ j m. go k j m (decLe (useAt p j .offset) k) (decLt k (useAt p j .offset + useAt p j .duration))))
     where
       go : (k j : ℕ) → j < length (p .uses) → Dec (useAt p j .offset ≤ k) → Dec (k < useAt p j .offset + useAt p j .duration) → takenAt cap u ii t k (useAt p j) ≡ false
       go k j m (no a) b = rw (lt-leb (useAt p j .offset) k (omega arith))

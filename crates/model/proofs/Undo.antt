@@ -17,10 +17,11 @@ use Rattle.model.specs.Table.{rowBase, tableOf}
 use Rattle.model.specs.Session.{Setup, Starts, State, start, placedIn, stateTable, Call, place, force, remove, checkpoint, release, rollback, Reply, done, numbered, isPlaced, checks, effect, stepAs, step, after, replies}
 use Rattle.model.specs.Undo.{gives, NoneGives, markedBy, startOr, placings, times, OrderOf, AllDone}
 use Rattle.model.proofs.Lists.{getD-filled, and-left, and-right, first-none}
+use Rattle.model.proofs.StartLists.{set-places}
 use Rattle.model.proofs.Legality.{fits-tests, fits-conflict}
 use Rattle.model.proofs.Counts.{legal-part, legal-place}
 use Rattle.model.proofs.Table.{table-nil-all, cells-nothing}
-use Rattle.model.proofs.Good.{Good, left-part, placed-set}
+use Rattle.model.proofs.Good.{Good, left-part}
 use Rattle.model.proofs.Session.{step-done, rollback-done, state-same, marked, wentBack, back-newest}
 
 -- ---- back to a checkpoint
@@ -212,7 +213,7 @@ module _ (u : Setup) (ok : LoopOk (u .loop)) (pos : 1 ≤ u .ii) (xs : Starts) (
       let t : ℕ = startOr (getD xs o none) in
       let inside : o < size (u .loop) = omega (arith, good .whole, h .whole, head-inside o os ys h) in
       let legal : legalAt (u .loop) (u .ii) (placeAt (placedIn ys) o t) ≡ true =
-      ap (legalAt (u .loop) (u .ii)) (sym (placed-set ys o t (head-inside o os ys h)))
+      ap (legalAt (u .loop) (u .ii)) (sym (set-places (λ x. x) none ys o (some t) t (head-inside o os ys h) refl))
       ∙ legal-part (u .loop) (u .ii) ok pos _ (placedIn xs) (left-part (set ys o (some t)) xs (λ p. leb 1 (times p os)) (left-next o os ys h .at)) (good .fine) in
       place-done u st o t inside (head-free o os ys h) (good .near o t (head-is o os ys h .0))
       (and-right (legalAt (u .loop) (u .ii) (placedIn ys)) _ (sym (legal-place (u .loop) (u .ii) ok pos (placedIn ys) o t inside (head-free o os ys h)) ∙ legal))

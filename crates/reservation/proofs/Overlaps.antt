@@ -5,11 +5,12 @@ use Prim.Native.Nat.{ℕ, _+_, _%_, _≤_, _<_}
 use native.Mathlib.Omega.{arith}
 use lib.Dec.{eqb, ltb}
 use lib.ListN.{length, getD}
-use borrow.Author.Tests.{leb-true, le-leb, eq-eqb, ne-eqb, eqb-true, lt-ltb, ltb-true, le-ltb}
+use borrow.Author.Tests.{le-leb, eq-eqb, ne-eqb, eqb-true, lt-ltb, ltb-true, le-ltb}
 use Rattle.model.specs.Lists.{upFrom, anyOf}
+use Rattle.model.specs.Table.{countOf}
 use Rattle.model.specs.Loop.{Use, Op, Loop, noUse, size, opAt, useAt, allUses, firstUseOf, OpOk}
 use Rattle.model.specs.Legality.{sameCell, footprint, share, conflict}
-use Rattle.model.proofs.Lists.{and-left, and-right, same-true, same-test, at-any, any-some, some-any, any-count, any-row, row-any, row-some}
+use Rattle.model.proofs.Lists.{and-left, and-right, same-test, any-count, none-count, any-row, row-any, row-some}
 use Rattle.model.proofs.Modular.{cycleOf, cycle-row, cycle-first}
 use Rattle.model.proofs.Loop.{use-among}
 use Rattle.model.proofs.Cells.{cells-each, each-cells}
@@ -42,16 +43,6 @@ module _ (ii : ℕ) (pos : 1 ≤ ii) (p : Op) (ok : OpOk p) (s : ℕ) where
       rw (eq-eqb (u .slot) slot (h .slot))
       (lt-ltb (cycleOf ii (s + u .offset) row) (u .duration) (omega (arith, h .going, cycle-first ii (s + u .offset) row i pos (h .row))))
 
-  -- an operation covers the slot in the row exactly where one of its uses does
-  pub covers-uses : (slot row : ℕ) → row < ii → coversCell ii p s slot row ≡ anyOf (usePass ii s slot row) (p .uses)
-  unfolding coversCell
-  covers-uses slot row l =
-      same-true (anyOf (sameCell (record { slot = slot; row = row })) (footprint ii p s)) (anyOf (usePass ii s slot row) (p .uses))
-      (λ e. let w = cell-hit ii p s ok slot row (leb-true 1 _ (sym (any-count _ (footprint ii p s)) ∙ e)) in
-      some-any (usePass ii s slot row) (p .uses) noUse (w .0) (w .2 .inside) (hit-test slot row (w .0) (w .1) (w .2)))
-      (λ e. let w = any-some (usePass ii s slot row) (p .uses) noUse e in
-      any-count _ (footprint ii p s) ∙ le-leb 1 _ (hit-cell ii p s ok slot row (w .0) _ (test-hit slot row (w .0) l (w .1) (w .2))))
-
 -- of a use v that is read as u, of slot x, offset y and duration z
 module _ (ii s slot row : ℕ) (u v : Use) (same : u ≡ v) (x : ℕ) (a : x ≡ u .slot) where
   -- where it is on another slot
@@ -73,11 +64,19 @@ module _ (ii s slot row : ℕ) (u v : Use) (same : u ≡ v) (x : ℕ) (a : x ≡
 module _ (ii : ℕ) (pos : 1 ≤ ii) (p : Op) (ok : OpOk p) (s slot row : ℕ) (l : row < ii) where
   -- a use that passes is enough
   pub pass-covers : (j : ℕ) → j < length (p .uses) → usePass ii s slot row (useAt p j) ≡ true → coversCell ii p s slot row ≡ true
-  pass-covers j m e = covers-uses ii pos p ok s slot row l ∙ some-any (usePass ii s slot row) (p .uses) noUse j m e
+  unfolding coversCell
+  pass-covers j m e = any-count _ (footprint ii p s) ∙ le-leb 1 _ (hit-cell ii p s ok slot row j _ (test-hit ii pos p ok s slot row j l m e))
 
   -- where none passes, the operation does not cover the cell
   pub none-covers : ((j : ℕ) → j < length (p .uses) → usePass ii s slot row (useAt p j) ≡ false) → coversCell ii p s slot row ≡ false
-  none-covers h = covers-uses ii pos p ok s slot row l ∙ at-any (usePass ii s slot row) (p .uses) noUse h
+  unfolding coversCell
+  none-covers h = none-count _ (footprint ii p s) (omega (arith, away))
+    where
+      away : 1 ≤ countOf slot row (footprint ii p s) → ⊥
+      away c =
+          let w = cell-hit ii p s ok slot row c in
+          let z : false ≡ true = sym (h (w .0) (w .2 .inside)) ∙ hit-test ii pos p ok s slot row (w .0) (w .1) (w .2) in
+          let y : _≡_ {A = ℕ} 0 1 = cc in omega arith
 
 -- ---- two operations
 

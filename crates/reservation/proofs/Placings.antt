@@ -30,37 +30,32 @@ legal-digits l ii f ok h s r = omega (arith, apart-once l ii f ok (and-right (me
 
 -- ---- the table
 
-module _ {base : ℕ} (l : Loop) (ii : ℕ) (f : Placing) (o t : ℕ) (inside : o < size l) (open-yet : f o ≡ none) where
-  -- the table of the footprint and the cells is that of the placing with it
-  pub table-place : (rows : List ℕ) → IsTable base ii (footprint ii (opAt l o) t ++ cellsOf l ii f) rows → IsTable base ii (cellsOf l ii (placeAt f o t)) rows
-  table-place rows = table-same base ii _ (cellsOf l ii (placeAt f o t)) rows (λ s r. simp count-append (sym (used-place l ii f o t inside open-yet s r)))
-
-  -- and the other way round
-  pub place-table : (rows : List ℕ) → IsTable base ii (cellsOf l ii (placeAt f o t)) rows → IsTable base ii (footprint ii (opAt l o) t ++ cellsOf l ii f) rows
-  place-table rows = table-same base ii (cellsOf l ii (placeAt f o t)) _ rows (λ s r. simp count-append (used-place l ii f o t inside open-yet s r))
-
 module _ (l : Loop) (ii : ℕ) (f : Placing) (o t : ℕ) (ok : LoopOk l) (pos : 1 ≤ ii) (inside : o < size l) (open-yet : f o ≡ none) where
   -- its uses are in order
   op-ok : OpOk (opAt l o)
   op-ok = ok .op-ok o inside
 
+  -- the table of the placing with it is that of its footprint and the cells
+  place-table : {base : ℕ} (rows : List ℕ) → IsTable base ii (cellsOf l ii (placeAt f o t)) rows → IsTable base ii (footprint ii (opAt l o) t ++ cellsOf l ii f) rows
+  place-table {base} rows = table-same base ii (cellsOf l ii (placeAt f o t)) _ rows (λ s r. simp count-append (used-place l ii f o t inside open-yet s r))
+
   -- reserving it makes the table that of the placing with it
   pub reserve-place : {base : ℕ} (rows : List ℕ) → IsTable base ii (cellsOf l ii f) rows
       → IsTable base ii (cellsOf l ii (placeAt f o t)) (overUses (withOne base) ii t (opAt l o .uses) (length (opAt l o .uses)) rows)
   reserve-place {base} rows h =
-      table-place l ii f o t inside open-yet (overUses (withOne base) ii t (opAt l o .uses) (length (opAt l o .uses)) rows)
+      table-same base ii _ (cellsOf l ii (placeAt f o t)) _ (λ s r. simp count-append (sym (used-place l ii f o t inside open-yet s r)))
       (reserve-table ii t (opAt l o) op-ok pos (cellsOf l ii f) rows h)
 
   -- and releasing it makes the table that of the placing without it
   pub release-place : {base : ℕ} (rows : List ℕ) → IsTable base ii (cellsOf l ii (placeAt f o t)) rows
       → IsTable base ii (cellsOf l ii f) (overUses (lessOne base) ii t (opAt l o .uses) (length (opAt l o .uses)) rows)
-  release-place {base} rows h = release-table ii t (opAt l o) op-ok pos (cellsOf l ii f) rows (place-table l ii f o t inside open-yet rows h)
+  release-place rows h = release-table ii t (opAt l o) op-ok pos (cellsOf l ii f) rows (place-table rows h)
 
   -- it can be released from the table of the placing with it
   pub release-uses : t ≤ 4096 → (rows : List ℕ) → IsTable rowBase ii (cellsOf l ii (placeAt f o t)) rows → Digits 2 (cellsOf l ii (placeAt f o t))
       → UsesIn rowBase 1 rows ii t (opAt l o .uses)
   release-uses near rows h d =
-      uses-taken ii t (opAt l o) op-ok pos near (omega arith) (cellsOf l ii f) rows (place-table l ii f o t inside open-yet rows h)
+      uses-taken ii t (opAt l o) op-ok pos near (omega arith) (cellsOf l ii f) rows (place-table rows h)
       (λ s r. simp count-append (omega (arith, d s r, used-place l ii f o t inside open-yet s r)))
 
   module _ (rows : List ℕ) (held : IsTable rowBase ii (cellsOf l ii f) rows) (digits : Digits 2 (cellsOf l ii f)) where

@@ -11,7 +11,7 @@ use Rattle.model.proofs.File.{accepted-ok}
 use Rattle.reservation.specs.Seats.{seats, brokenOf}
 use Rattle.refusals.specs.Checked.{refusalOf}
 use Rattle.board.specs.Checks.{asUnmet}
-use Rattle.board.proofs.Refusals.{common, known-inside, known-near, force-early, force-broken, force-clash, force-fine}
+use Rattle.board.proofs.Refusals.{common, known, force-early, force-broken, force-clash, force-fine}
 use Rattle.board.proofs.checks.forceable.Statement.{statement}
 use Rattle.board.proofs.checks.forceable.Tie as tie
 
@@ -46,7 +46,7 @@ first-broken-requires c κs =
     let k = c .before .before .before in
     let a = start k .args in
     let p = start k .pre in
-    (p .0, omega (arith, known-near (a .file .now) (a .horizon) (a .op) (a .start) (a .starts .now) (known-is (c .before)), p .1 .far), p .1 .short, rw (length-replicate {A = ℕ} 64 65535) (accepted-ok (a .file .now) (p .0) .few))
+    (p .0, omega (arith, known (a .file .now) (a .horizon) (a .op) (a .start) (a .starts .now) (known-is (c .before)) .soon, p .1 .far), p .1 .short, rw (length-replicate {A = ℕ} 64 65535) (accepted-ok (a .file .now) (p .0) .few))
 
 enum-told-3 : tie.Need-enum-told-3
 enum-told-3 c = omega arith
@@ -75,7 +75,7 @@ too-long-requires c κs =
     let t = c .before .before .before .before in
     let k = t .before .before in
     let a = start k .args in
-    (start k .pre .0, known-inside (a .file .now) (a .horizon) (a .op) (a .start) (a .starts .now) (known-is t))
+    (start k .pre .0, known (a .file .now) (a .horizon) (a .op) (a .start) (a .starts .now) (known-is t) .inside)
 
 returns-3 : tie.Need-returns-3
 returns-3 c =

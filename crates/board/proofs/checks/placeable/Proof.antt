@@ -10,7 +10,7 @@ use Rattle.reservation.specs.Seats.{seats, brokenOf}
 use Rattle.reservation.proofs.TakenCells.{free-place, taken-place}
 use Rattle.refusals.specs.Checked.{refusalOf}
 use Rattle.board.specs.Checks.{asUnmet}
-use Rattle.board.proofs.Refusals.{common, known-inside, known-near, place-early, place-broken, place-clash, place-fine}
+use Rattle.board.proofs.Refusals.{common, known, place-early, place-broken, place-clash, place-fine}
 use Rattle.board.proofs.checks.placeable.Statement.{statement}
 use Rattle.board.proofs.checks.placeable.Tie as tie
 
@@ -42,7 +42,7 @@ first-broken-requires c κs =
     let k = c .before .before .before in
     let a = start k .args in
     let p = start k .pre in
-    (p .accepted, omega (arith, known-near (a .file .now) (a .horizon) (a .op) (a .start) (a .starts .now) (known-is (c .before)), p .numbers .far), p .numbers .short, omega (arith, accepted-ok (a .file .now) (p .accepted) .few, p .sane .whole))
+    (p .accepted, omega (arith, known (a .file .now) (a .horizon) (a .op) (a .start) (a .starts .now) (known-is (c .before)) .soon, p .numbers .far), p .numbers .short, omega (arith, accepted-ok (a .file .now) (p .accepted) .few, p .sane .whole))
 
 enum-told-3 : tie.Need-enum-told-3
 enum-told-3 c = omega arith
@@ -72,7 +72,7 @@ first-use-requires c κs =
     let t = c .before .before .before .before in
     let k = t .before .before in
     let a = start k .args in
-    (start k .pre .accepted, known-inside (a .file .now) (a .horizon) (a .op) (a .start) (a .starts .now) (known-is t))
+    (start k .pre .accepted, known (a .file .now) (a .horizon) (a .op) (a .start) (a .starts .now) (known-is t) .inside)
 
 conflict-requires : tie.Need-conflict-requires
 conflict-requires c κs =
@@ -80,7 +80,7 @@ conflict-requires c κs =
     let k = t .before .before in
     let a = start k .args in
     let p = start k .pre in
-    (p .accepted, known-inside (a .file .now) (a .horizon) (a .op) (a .start) (a .starts .now) (known-is t), omega (arith, known-near (a .file .now) (a .horizon) (a .op) (a .start) (a .starts .now) (known-is t), p .numbers .far), p .numbers .some, p .numbers .short, p .held .long, c .first-use .ensures)
+    (p .accepted, known (a .file .now) (a .horizon) (a .op) (a .start) (a .starts .now) (known-is t) .inside, omega (arith, known (a .file .now) (a .horizon) (a .op) (a .start) (a .starts .now) (known-is t) .soon, p .numbers .far), p .numbers .some, p .numbers .short, p .held .long, c .first-use .ensures)
 
 enum-told-5 : tie.Need-enum-told-5
 enum-told-5 c = omega arith
