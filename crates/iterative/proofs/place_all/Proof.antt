@@ -37,7 +37,7 @@ returns c =
     let w = c .before .before .before in
     let a = w .before .before .before .before in
     record {
-      found = λ d. record { low = a .loop .inv .0; high = omega (arith, a .before .last-of .ensures, w .before .before .before .loop-test .taken); schedule = w .attempt-all .ensures .found (c .if1 .taken) };
+      found = λ d. record { low = omega (arith, a .loop .inv .0); high = omega (arith, a .before .last-of .ensures, w .before .before .before .loop-test .taken); schedule = w .attempt-all .ensures .found (c .if1 .taken) };
       untouched = left-by w;
     }
 
