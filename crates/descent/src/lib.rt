@@ -2,7 +2,7 @@
 // use once and goes through its starts; `try_start` tests one start against the table, reserves, lets `choose` go on with the next operation, and releases. A start is
 // paid for before it is looked at, so what is left of the budget falls with every turn. Internal: each function asks for an accepted file and rows that hold the
 // operations placed so far.
-pub mod window;
+mod window;
 
 use crate::window::window_of;
 use loop_access::first_use;
@@ -10,6 +10,7 @@ use reservation::Place;
 use reservation::cells::release;
 use reservation::cells::reserve;
 use reservation::test::conflict;
+pub use window::earliest;
 ghost use mathlib.Core.Path.{_≡_};
 ghost use mathlib.Core.List.{[], _∷_, _++_};
 ghost use Prim.Native.Nat.{_<_};

@@ -4,9 +4,10 @@ use mathlib.Core.List.{List}
 use Prim.Native.Nat.{ℕ, _+_, _≤_, _<_}
 use native.Mathlib.Decide.{ℕ-discrete, decLt}
 use native.Mathlib.Omega.{arith}
+use borrow.Author.Count.{below-more}
 use borrow.Author.Tests.{eq-eqb, ne-eqb, lt-ltb, le-ltb}
 use lib.ListN.{getD}
-use Rattle.iterative.specs.Priority.{Higher, AllPlaced, Highest, Picked}
+use Rattle.iterative.specs.Priority.{Higher, Highest, Picked}
 
 -- among none: none
 pub pick-first : (n : ℕ) (xs ranks : List ℕ) → Picked n 0 xs ranks n
@@ -23,18 +24,10 @@ module _ {n k best : ℕ} {xs ranks : List ℕ} (p : Picked n k xs ranks best) w
 
   -- the next operation is placed
   pub pick-past : (getD xs k 65535 ≡ 65535 → ⊥) → Picked n (k + 1) xs ranks best
-  pick-past d = record { none-left = λ e o l. all (p .none-left e) o l (ℕ-discrete o k); highest = λ e. more (p .highest e) }
+  pick-past d = record { none-left = λ e. below-more _ k (p .none-left e) d; highest = λ e. more (p .highest e) }
     where
-      all : AllPlaced k xs → (o : ℕ) → o < k + 1 → Dec (o ≡ k) → getD xs o 65535 ≡ 65535 → ⊥
-      all a o l (yes e) = rw e d
-      all a o l (no m) = a o (omega arith)
-
-      next : Highest k xs ranks best → (o : ℕ) → o < k + 1 → Dec (o ≡ k) → getD xs o 65535 ≡ 65535 → getD ranks o 0 ≤ getD ranks best 0
-      next h o l (yes e) = rw e (λ q. absurd (d q))
-      next h o l (no m) = h .none-higher o (omega arith)
-
       more : Highest k xs ranks best → Highest (k + 1) xs ranks best
-      more h = record { inside = omega (arith, h .inside); blank = h .blank; none-higher = λ o l. next h o l (ℕ-discrete o k); none-before = h .none-before }
+      more h = record { inside = omega (arith, h .inside); blank = h .blank; none-higher = below-more _ k (h .none-higher) (λ q. absurd (d q)); none-before = h .none-before }
 
   -- it is not
   module _ (inside : k < n) (blank : getD xs k 65535 ≡ 65535) where
@@ -42,23 +35,15 @@ module _ {n k best : ℕ} {xs ranks : List ℕ} (p : Picked n k xs ranks best) w
     above : ((o : ℕ) → o < k → getD xs o 65535 ≡ 65535 → getD ranks o 0 < getD ranks k 0) → Picked n (k + 1) xs ranks k
     above h = record {
       none-left = λ e. absurd (omega arith);
-      highest = λ d. record { inside = omega arith; blank = blank; none-higher = λ o l. go o l (ℕ-discrete o k); none-before = h };
+      highest = λ d. record { inside = omega arith; blank = blank; none-higher = below-more _ k (λ o l q. omega (arith, h o l q)) (λ q. omega arith); none-before = h };
     }
-      where
-        go : (o : ℕ) → o < k + 1 → Dec (o ≡ k) → getD xs o 65535 ≡ 65535 → getD ranks o 0 ≤ getD ranks k 0
-        go o l (yes e) q = rw e (omega arith)
-        go o l (no m) q = omega (arith, h o (omega arith) q)
 
     -- or one before has as high a rank
     same : Highest k xs ranks best → getD ranks k 0 ≤ getD ranks best 0 → Picked n (k + 1) xs ranks best
     same h low = record {
       none-left = λ e. absurd (omega (arith, h .inside));
-      highest = λ d. record { inside = omega (arith, h .inside); blank = h .blank; none-higher = λ o l. go o l (ℕ-discrete o k); none-before = h .none-before };
+      highest = λ d. record { inside = omega (arith, h .inside); blank = h .blank; none-higher = below-more _ k (h .none-higher) (λ q. low); none-before = h .none-before };
     }
-      where
-        go : (o : ℕ) → o < k + 1 → Dec (o ≡ k) → getD xs o 65535 ≡ 65535 → getD ranks o 0 ≤ getD ranks best 0
-        go o l (yes e) q = rw e low
-        go o l (no m) q = h .none-higher o (omega arith) q
 
     pub pick-next : {r : ℕ} → Higher n best k ranks r → Picked n (k + 1) xs ranks r
     pick-next {r} is = go (ℕ-discrete best n) (decLt (getD ranks best 0) (getD ranks k 0))

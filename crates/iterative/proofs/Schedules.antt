@@ -82,8 +82,8 @@ module _ {f xs₀ rows₀ rows₁ : List ℕ} {n ii h : ℕ} (q : Ready f n ii h
         found = λ e. schedule (k .board) (q .is-size) (s .all e);
         untouched = record {
           rest = far-rest ii rows rows₀ (q .numbers .short) (k .rest ∙ ap (drop ii) clear ∙ drop-at (replicate ii 0) (drop ii rows₀) ii (length-replicate ii 0));
-          as-wide = k .board .sane .whole ∙ sym (q .whole);
-          as-long = kept-length begins k ∙ ap length clear ∙ cleared-length ii rows₀ room₁;
+          starts-length = k .board .sane .whole ∙ sym (q .whole);
+          rows-length = kept-length begins k ∙ ap length clear ∙ cleared-length ii rows₀ room₁;
         };
       }
 
@@ -91,15 +91,15 @@ module _ {f xs₀ rows₀ rows₁ : List ℕ} {n ii h : ℕ} (q : Ready f n ii h
 
 -- none is made yet
 pub untouched : (xs rows : List ℕ) → Untouched xs rows xs rows
-untouched xs rows = record { rest = refl; as-wide = refl; as-long = refl }
+untouched xs rows = record { rest = refl; starts-length = refl; rows-length = refl }
 
 -- one after the other
 pub untouched-again : {xs₀ rows₀ xs rows xs′ rows′ : List ℕ} → Untouched xs₀ rows₀ xs rows → Untouched xs rows xs′ rows′ → Untouched xs₀ rows₀ xs′ rows′
-untouched-again a b = record { rest = b .rest ∙ a .rest; as-wide = b .as-wide ∙ a .as-wide; as-long = b .as-long ∙ a .as-long }
+untouched-again a b = record { rest = b .rest ∙ a .rest; starts-length = b .starts-length ∙ a .starts-length; rows-length = b .rows-length ∙ a .rows-length }
 
 -- the next may begin
 pub ready-again : {f xs₀ rows₀ xs rows : List ℕ} {n ii h : ℕ} → Ready f n ii h xs₀ rows₀ → Untouched xs₀ rows₀ xs rows → Ready f n ii h xs rows
-ready-again q u = record { accepted = q .accepted; is-size = q .is-size; numbers = q .numbers; whole = u .as-wide ∙ q .whole; long = omega (arith, u .as-long, q .long) }
+ready-again q u = record { accepted = q .accepted; is-size = q .is-size; numbers = q .numbers; whole = u .starts-length ∙ q .whole; long = omega (arith, u .rows-length, q .long) }
 
 -- and so may one at another interval
 pub ready-at : {f xs₀ rows₀ xs rows : List ℕ} {n least cap h : ℕ} (ii : ℕ) → Asked f n least cap h xs₀ rows₀ → least ≤ ii → ii ≤ cap → Untouched xs₀ rows₀ xs rows → Ready f n ii h xs rows
@@ -107,6 +107,6 @@ ready-at ii a low high u = record {
   accepted = a .accepted;
   is-size = a .is-size;
   numbers = record { some = omega (arith, a .some); short = omega (arith, a .capped); far = a .far };
-  whole = u .as-wide ∙ a .whole;
-  long = omega (arith, u .as-long, a .long);
+  whole = u .starts-length ∙ a .whole;
+  long = omega (arith, u .rows-length, a .long);
 }

@@ -2,8 +2,7 @@
 use mathlib.Core.Path.{_≡_, refl, sym, ap, ap₂, _∙_}
 use mathlib.Core.Bool.{Bool, true, false, not, _&&_, _||_, and-false, Bool·not-not}
 use mathlib.Core.List.{List}
-use Prim.Native.Nat.{ℕ, _+_, _≤_, _<_, max}
-use native.Mathlib.Decide.{ℕ-discrete}
+use Prim.Native.Nat.{ℕ, _+_, max}
 use native.Mathlib.Omega.{arith}
 use borrow.Author.Tests.{le-leb, leb-true, eq-eqb, ne-eqb}
 use lib.Dec.{eqb, leb}
@@ -68,13 +67,3 @@ module _ {l : Loop} {ii o : ℕ} {xs : List ℕ} where
       not-or : (p q : Bool) → (not p && not q) ≡ not (p || q)
       not-or true q = refl
       not-or false q = refl
-
--- ---- free starts
-
--- what is at no start before s, and not at s, is at none before s + 1
-pub next-taken : {from s : ℕ} {P : ℕ → Type 0} → ((t : ℕ) → from ≤ t → t < s → P t → ⊥) → (P s → ⊥) → (t : ℕ) → from ≤ t → t < s + 1 → P t → ⊥
-next-taken {s = s} {P = P} h d t l m = go (ℕ-discrete t s)
-  where
-    go : Dec (t ≡ s) → P t → ⊥
-    go (yes e) = rw e d
-    go (no n) = h t l (omega arith)

@@ -40,8 +40,8 @@ pub record Schedule (l : Loop) (n ii h : ℕ) (xs : List ℕ) : Type 0 where
 -- the rows after the first 4,096 are as they were, and so are the lengths
 pub record Untouched (xs rows xs′ rows′ : List ℕ) : Type 0 where
   pub rest : drop 4096 rows′ ≡ drop 4096 rows
-  pub as-wide : length xs′ ≡ length xs
-  pub as-long : length rows′ ≡ length rows
+  pub starts-length : length xs′ ≡ length xs
+  pub rows-length : length rows′ ≡ length rows
 
 -- what an attempt at one interval leaves: a schedule where the answer says so
 pub record Attempted (f : List ℕ) (n ii h : ℕ) (xs rows xs′ rows′ : List ℕ) (r : Bool) : Type 0 where

@@ -8,7 +8,7 @@ use lib.ListN.{getD}
 use Rattle.model.specs.Lists.{upFrom, sumOf}
 use Rattle.model.specs.Loop.{Loop, opAt, useAt}
 
--- for how many cycles operation o holds slots: the sum of the durations of its first k uses
+-- the sum of the durations of operation o's first k uses: of all its uses, for how many cycles it holds slots
 abbrev pub heldBy : Loop → (o k : ℕ) → ℕ
 heldBy l o k = sumOf (λ j. useAt (opAt l o) j .duration) (upFrom 0 k)
 

@@ -36,7 +36,7 @@ FreeAt ii rows p t = firstMet rowBase ii rows t (p .uses) ≡ none
 -- r is the first start of from, .., from + ii - 1, below h, at which the rows are free for p, or h where there is none
 pub record FirstFree (p : Op) (ii h from : ℕ) (rows : List ℕ) (r : ℕ) : Type 0 where
   pub within : r ≤ h
-  pub none-before : (t : ℕ) → from ≤ t → t < r → t < from + ii → FreeAt ii rows p t → ⊥
+  pub none-before : (t : ℕ) → t < r → from ≤ t → t < from + ii → FreeAt ii rows p t → ⊥
   pub free : r < h → (from ≤ r) × (r < from + ii) × FreeAt ii rows p r
 
 -- ---- the start that is chosen

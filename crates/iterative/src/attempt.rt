@@ -13,7 +13,7 @@ ghost use Rattle.model.specs.File.{loopOf};
 ghost use Rattle.board.specs.Board.{Board};
 ghost use Rattle.iterative.specs.Placed.{Ready, Kept, Settled, Attempted};
 
-// One step: puts `op`, and takes out what is in its way. Whether there is a start for it below the horizon. again[i] is the first start after the last one that operation i had.
+// One step: puts `op`, and takes out what is in its way; whether there is a start for it below the horizon. again[i] is the first start after the last one that operation i had, 0 at first.
 fn step(
     file: &[u8],
     op: usize,
@@ -24,7 +24,7 @@ fn step(
     rows: &mut [u64],
 ) -> bool
     requires { ⌜ Board (now file) interval horizon (now starts) (now rows) × (op < size (loopOf (now file))) ⌝ }
-    ensures { λ r. ⌜ Kept (now (file .entry)) interval horizon (now (rows .entry)) (now (starts .exit)) (now (rows .exit)) ⌝ }
+    ensures { λ _. ⌜ Kept (now (file .entry)) interval horizon (now (rows .entry)) (now (starts .exit)) (now (rows .exit)) ⌝ }
 {
     let start = choose_start(file, op, wide(again[op]), interval, horizon, starts, rows);
     if horizon <= start {

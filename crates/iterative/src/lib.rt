@@ -27,7 +27,7 @@ fn larger(a: usize, b: usize) -> usize
     a
 }
 
-// The last interval that is tried. From horizon + 63 on no row wraps and every dependence on an earlier iteration is met, so the same starts are legal at every interval from there on.
+// The last interval that is tried. From horizon + 63 on no row wraps and every dependence on an earlier iteration is met, so the same starts below the horizon are legal at every interval from there on.
 fn last_of(least: usize, cap: usize, horizon: usize) -> usize
     requires { ⌜ horizon ≤ 4096 ⌝ }
     ensures { λ r. ⌜ r ≡ min (max least (horizon + 63)) cap ⌝ }
@@ -40,8 +40,8 @@ fn last_of(least: usize, cap: usize, horizon: usize) -> usize
 }
 
 // The interval at which every operation got a start, or 0 where none of those tried had one. Tried are the intervals from `least` to the cap or, if that is less, to the larger of `least` and horizon + 63; each in four
-// orders of priority, and in each with 10 steps an operation, a step for each time that an operation is put. Beside what is found, the starts and the first 4,096 rows are left as the last attempt left them: the caller
-// clears the rows.
+// orders of priority, and in each with 10 steps an operation, a step for each time that an operation is put. What the starts are where none is found, and what the first 4,096 rows are, is left free: the caller clears the
+// rows.
 pub fn place_all(
     file: &[u8],
     n: usize,

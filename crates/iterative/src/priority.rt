@@ -1,7 +1,7 @@
-// Which operation is put next: the one of the highest rank, by the paths of dependences from it and to it and by the cycles for which it holds slots. Ranks only say in which order operations are put, so of the lengths of
-// paths nothing is promised. Internal: asks for an accepted file.
+// Which operation is put next: the one of the highest rank, by the paths of dependences from it and to it and by the cycles for which it holds slots. Ranks only say in which order operations are put, so nothing is promised of
+// them. Internal: asks for an accepted file.
 use crate::wide;
-use descent::window::earliest;
+use descent::earliest;
 use loop_access::dep_count;
 use loop_access::duration;
 use loop_access::first_use;
@@ -15,7 +15,7 @@ ghost use Rattle.model.specs.Loop.{size, opAt};
 ghost use Rattle.model.specs.File.{loopOf, Accepted};
 ghost use Rattle.iterative.specs.Priority.{heldBy, Higher, Picked};
 
-// A length of a path as one of 0 to 4,095. At an interval at which the dependences can be met no path is longer than 63 * 64.
+// A number as one of 0 to 4,095. At an interval at which the dependences can be met no path is longer than 63 * 64.
 fn capped(x: usize) -> usize
     ensures { λ r. ⌜ r ≡ min x 4095 ⌝ }
 {
@@ -25,7 +25,7 @@ fn capped(x: usize) -> usize
     4095
 }
 
-// lengths[i] becomes at least v; whether it rose.
+// lengths[i] becomes at least v, if that is one of 0 to 4,095, else at least 4,095; whether it rose.
 fn raise(lengths: &mut [u16; 64], i: usize, v: usize) -> bool
     requires { ⌜ i < 64 ⌝ }
 {

@@ -2,7 +2,7 @@
 // accepted file and for starts and rows in range.
 use crate::larger;
 use crate::wide;
-use descent::window::earliest;
+use descent::earliest;
 use loop_access::dep_count;
 use loop_access::first_use;
 use loop_access::source;

@@ -30,14 +30,14 @@ left-by : (c : tie.After-attempt-all Inv-loop μ-loop) → let s = c .before .be
 left-by c = untouched-again (c .before .before .before .before .loop .inv .1) (c .attempt-all .ensures .untouched)
 
 same-length : tie.Need-same-length Inv-loop μ-loop
-same-length c = left-by (c .before .before .before) .as-long
+same-length c = left-by (c .before .before .before) .rows-length
 
 returns : tie.Need-returns Inv-loop μ-loop
 returns c =
     let w = c .before .before .before in
     let a = w .before .before .before .before in
     record {
-      found = λ d. record { low = a .loop .inv .0; high = omega (arith, a .before .last-of .ensures, w .before .before .before .loop-test .taken); schedule = w .attempt-all .ensures .found (c .if1 .taken) };
+      found = λ d. record { low = omega (arith, a .loop .inv .0); high = omega (arith, a .before .last-of .ensures, w .before .before .before .loop-test .taken); schedule = w .attempt-all .ensures .found (c .if1 .taken) };
       untouched = left-by w;
     }
 
@@ -51,7 +51,7 @@ loop-again : tie.Need-loop-again Inv-loop μ-loop
 loop-again c = (omega arith, left-by (c .before .before .before))
 
 same-length-2 : tie.Need-same-length-2 Inv-loop μ-loop
-same-length-2 c = c .before .loop .inv .1 .as-long
+same-length-2 c = c .before .loop .inv .1 .rows-length
 
 returns-2 : tie.Need-returns-2 Inv-loop μ-loop
 returns-2 c = record { found = λ d. absurd (d refl); untouched = c .before .loop .inv .1 }

@@ -25,7 +25,7 @@ left-by : (c : tie.After-attempt Inv-loop μ-loop) → let s = c .before .before
 left-by c = untouched-again (c .before .before .before .before .loop .inv .1) (c .attempt .ensures .untouched)
 
 same-length : tie.Need-same-length Inv-loop μ-loop
-same-length c = left-by (c .before .before .before) .as-long
+same-length c = left-by (c .before .before .before) .rows-length
 
 returns : tie.Need-returns Inv-loop μ-loop
 returns c = let w = c .before .before .before in record { found = λ e. w .attempt .ensures .found (c .if1 .taken); untouched = left-by w }
@@ -40,7 +40,7 @@ loop-again : tie.Need-loop-again Inv-loop μ-loop
 loop-again c = (omega arith, left-by (c .before .before .before))
 
 same-length-2 : tie.Need-same-length-2 Inv-loop μ-loop
-same-length-2 c = c .before .loop .inv .1 .as-long
+same-length-2 c = c .before .loop .inv .1 .rows-length
 
 returns-2 : tie.Need-returns-2 Inv-loop μ-loop
 returns-2 c = record { found = λ e. let z : _≡_ {A = ℕ} 0 1 = cc in absurd (omega arith); untouched = c .before .loop .inv .1 }

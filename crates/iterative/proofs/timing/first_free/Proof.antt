@@ -2,17 +2,17 @@
 use mathlib.Core.Path.{_≡_}
 use Prim.Native.Nat.{ℕ, _+_, _-_, _≤_, _<_}
 use native.Mathlib.Omega.{arith}
+use borrow.Author.Count.{below-more}
 use Rattle.model.specs.Loop.{opAt}
 use Rattle.model.specs.File.{loopOf}
 use Rattle.reservation.proofs.TakenCells.{free-place, taken-place}
 use Rattle.iterative.specs.Timing.{FreeAt}
-use Rattle.iterative.proofs.Timings.{next-taken}
 use Rattle.iterative.proofs.timing.first_free.Statement.{statement}
 use Rattle.iterative.proofs.timing.first_free.Tie as tie
 
 abbrev Inv-loop : tie.InvT-loop
 Inv-loop file op from interval horizon rows first k₀ s₀ k s =
-    (k ≤ interval) × (s ≡ from + k) × ((t : ℕ) → from ≤ t → t < s → FreeAt interval rows (opAt (loopOf file) op) t → ⊥)
+    (k ≤ interval) × (s ≡ from + k) × ((t : ℕ) → t < s → from ≤ t → FreeAt interval rows (opAt (loopOf file) op) t → ⊥)
 
 abbrev μ-loop : tie.MeasureT-loop
 μ-loop file op from interval horizon rows first k₀ s₀ k s = horizon - s
@@ -21,10 +21,10 @@ first-use-requires : tie.Need-first-use-requires Inv-loop μ-loop
 first-use-requires c κs = let p = c .before .before .pre in (p .0, p .1)
 
 loop-holds : tie.Need-loop-holds Inv-loop μ-loop
-loop-holds c = (omega arith, omega arith, λ t a b. absurd (omega arith))
+loop-holds c = (omega arith, omega arith, λ t b a. absurd (omega arith))
 
 returns : tie.Need-returns Inv-loop μ-loop
-returns c = let a = c .before .before in record { within = omega arith; none-before = λ t l m k. a .loop .inv .2 t l (omega arith); free = λ m. absurd (omega arith) }
+returns c = let a = c .before .before in record { within = omega arith; none-before = λ t m l k. a .loop .inv .2 t (omega arith) l; free = λ m. absurd (omega arith) }
 
 conflict-requires : tie.Need-conflict-requires Inv-loop μ-loop
 conflict-requires c κs =
@@ -41,7 +41,7 @@ returns-2 c =
     let a = d .before .before .before in
     record {
       within = omega arith;
-      none-before = λ t l m k. a .loop .inv .2 t l m;
+      none-before = λ t m l k. a .loop .inv .2 t m l;
       free = λ m. (omega arith, omega arith, free-place (d .conflict .result) _ (d .conflict .ensures) (c .enum-told .given .1));
     }
 
@@ -61,10 +61,10 @@ loop-again : tie.Need-loop-again Inv-loop μ-loop
 loop-again c =
     let d = c .before .before in
     let a = d .before .before .before in
-    (omega arith, omega arith, λ t l m. next-taken (a .loop .inv .2) (taken-place (d .conflict .result) _ _ _ (d .conflict .ensures) (c .enum-told2 .given .1)) t l m)
+    (omega arith, omega arith, below-more _ (a .loop .s) (a .loop .inv .2) (λ l. taken-place (d .conflict .result) _ _ _ (d .conflict .ensures) (c .enum-told2 .given .1)))
 
 returns-3 : tie.Need-returns-3 Inv-loop μ-loop
-returns-3 c = let a = c .before in record { within = omega arith; none-before = λ t l m k. a .loop .inv .2 t l (omega arith); free = λ m. absurd (omega arith) }
+returns-3 c = let a = c .before in record { within = omega arith; none-before = λ t m l k. a .loop .inv .2 t (omega arith) l; free = λ m. absurd (omega arith) }
 
 pub first-free-spec : {M : Type 1} → statement M
 first-free-spec =
