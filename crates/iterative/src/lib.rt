@@ -6,6 +6,7 @@ mod priority;
 mod timing;
 
 use crate::attempt::attempt_all;
+use lower_bounds::larger;
 ghost use mathlib.Core.Path.{_≡_};
 ghost use Prim.Native.Nat.{_+_, _≤_, max, min};
 ghost use Rattle.iterative.specs.Placed.{Asked, Placed};
@@ -15,16 +16,6 @@ fn wide(x: u16) -> usize
     ensures { λ r. ⌜ r ≡ x ⌝ }
 {
     x as usize
-}
-
-// The larger of two numbers.
-fn larger(a: usize, b: usize) -> usize
-    ensures { λ r. ⌜ r ≡ max a b ⌝ }
-{
-    if a < b {
-        return b;
-    }
-    a
 }
 
 // The last interval that is tried. From horizon + 63 on no row wraps and every dependence on an earlier iteration is met, so the same starts below the horizon are legal at every interval from there on.

@@ -62,7 +62,7 @@ module _ {f : List ℕ} {n resource recurrence cap horizon budget : ℕ} {list r
   module _ {least quick : ℕ} {starts starts′ rows₁ : List ℕ} (least-is : least ≡ max resource recurrence) (wide : length starts ≡ 64) (t : Placed f n least cap horizon starts rows starts′ rows₁ quick) where
     -- its array is as long as ever
     pub as-wide : length starts′ ≡ 64
-    as-wide = t .untouched .as-wide ∙ wide
+    as-wide = t .untouched .starts-length ∙ wide
 
     module _ (there : quick ≡ 0 → ⊥) where
       -- it is legal
@@ -121,7 +121,7 @@ module _ {f : List ℕ} {n resource recurrence cap horizon budget : ℕ} {list r
     module _ (not-least : quick ≡ least → ⊥) {list₂ rows₂ : List ℕ} {s : Searched} (done : Searches f below-cap horizon budget list rows₁ s list₂ rows₂) where
       -- it passes its checks
       fine : firstRefusal (searchChecks f (upTo q below-cap) (length list) (length rows₁)) ≡ none
-      fine = let as-long = t .untouched .as-long in rw as-long (pick (eqb quick 0) refl)
+      fine = let as-long = t .untouched .rows-length in rw as-long (pick (eqb quick 0) refl)
         where
           pick : (z : Bool) → eqb quick 0 ≡ z → firstRefusal (searchChecks f (upTo q (cond z cap (quick - 1))) (length list) (length rows)) ≡ none
           pick true e = p .none-fails

@@ -24,7 +24,7 @@ clear-rows-requires : tie.Need-clear-rows-requires
 clear-rows-requires c κs =
     let t = c .before .before .before .before in
     let s = start t in
-    omega (arith, s .pre .long, t .place-all .ensures .untouched .as-long)
+    omega (arith, s .pre .long, t .place-all .ensures .untouched .rows-length)
 
 -- a quick list at the larger bound is there
 bound-there : (c : tie.Then1) → c .before .before .before .place-all .result ≡ 0 → ⊥
