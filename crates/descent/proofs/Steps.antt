@@ -5,6 +5,7 @@ use mathlib.Core.Logic.{_⊎_, inl, inr}
 use mathlib.Core.List.{List, [], _∷_, _++_, append-nil}
 use mathlib.Core.Option.{Option, none, some}
 use Prim.Native.Nat.{ℕ, suc, _+_, _-_, _≤_, _<_}
+use native.Mathlib.Nat.{zero-add}
 use native.Mathlib.Decide.{ℕ-discrete}
 use native.Mathlib.Numerals.{add-one}
 use native.Mathlib.Omega.{arith}
@@ -28,7 +29,7 @@ use Rattle.descent.specs.Tree.{under, treeAnswer, treeProbes, Res, broke
 use Rattle.descent.specs.Descent.{MayTry, tell, Wrote, Ready, Done, below, branch}
 use Rattle.descent.specs.declared.Found.{Found}
 use Rattle.descent.specs.declared.Found.the-variants.{All, Spent, Nothing}
-use Rattle.descent.proofs.Runs.{after, run-leaf, run-unfit, run-step, run-broke, run-end, run-all, run-skip}
+use Rattle.descent.proofs.Runs.{after, run-leaf, run-unfit, run-step, run-broke, run-end, run-all, run-skip-many, run-skip-broke}
 
 -- ---- a start that does not fit
 
@@ -119,11 +120,6 @@ pub record AfterProbe (f starts₀ rows₀ : List ℕ) (op n ii h left : ℕ) (l
   pub if-spent : r ≡ Spent → Done (below f starts₀ op n ii h left) n op (take op starts₀) starts₀ later Spent
   pub if-none : (k : ℕ) → r ≡ Nothing k → AtProbe f starts₀ rows₀ op n ii h left later rows k (s + 1)
 
--- a turn, of equal lists and an equal purse
-pub same-turn : {f starts₀ rows₀ : List ℕ} {op n ii h left : ℕ} {starts starts' rows rows' : List ℕ} {purse purse' s : ℕ} → starts' ≡ starts → rows' ≡ rows → purse' ≡ purse
-    → AtProbe f starts₀ rows₀ op n ii h left starts rows purse s → AtProbe f starts₀ rows₀ op n ii h left starts' rows' purse' s
-same-turn e g k t = rw (e, g, k) t
-
 -- the first op starts are op many
 prefix-length : {f starts rows : List ℕ} {op n ii h : ℕ} → Ready f starts rows op n ii h → length (take op starts) ≡ op
 prefix-length {starts = starts} {op = op} ready = length-take-le op starts (omega (arith, ready .deep, ready .long))
@@ -144,8 +140,8 @@ module _ {f starts₀ rows₀ : List ℕ} {op n ii h : ℕ} (ready : Ready f sta
       let r : below f starts₀ op n ii h left ≡ all [] left = ap (λ (m : ℕ). run L h m left) z ∙ run-leaf L h left here in
       record { says = rw r; list = rw r (ap (λ (k : ℕ). take k starts₀) (sym e) ∙ sym (append-nil (take op starts₀))); kept = refl; same-length = refl }
 
-  -- where the loop begins
-  pub begins : {left : ℕ} → op < n → AtProbe f starts₀ rows₀ op n ii h left starts₀ rows₀ left 0
+  -- before the first start
+  begins : {left : ℕ} → op < n → AtProbe f starts₀ rows₀ op n ii h left starts₀ rows₀ left 0
   begins {left} l =
       let z : n - op ≡ suc (n - op - 1) = omega arith in
       record {
@@ -159,11 +155,37 @@ module _ {f starts₀ rows₀ : List ℕ} {op n ii h : ℕ} (ready : Ready f sta
             ∙ ap (λ (m : ℕ). run L h m left) (sym z);
       }
 
+  -- no legal list goes on with one of the j starts from s on
+  abbrev Barred : ℕ → ℕ → Type 0
+  Barred s j = (t : ℕ) → s ≤ t → t < s + j → (q : List ℕ) → L (t ∷ q) ≡ false
+
   module _ {left : ℕ} {starts rows : List ℕ} {purse s : ℕ} (turn : AtProbe f starts₀ rows₀ op n ii h left starts rows purse s) where
+    -- j such starts take j probes
+    passes : (j : ℕ) → s + j ≤ h → j ≤ purse → Barred s j → AtProbe f starts₀ rows₀ op n ii h left starts rows (purse - j) (s + j)
+    passes j m l off =
+        let z : h - (s + j) ≡ h - s - j = omega arith in
+        record {
+          rows-same = turn .rows-same;
+          kept = turn .kept;
+          same-length = turn .same-length;
+          within = m;
+          paid = omega (arith, turn .paid);
+          to-come =
+              ap (λ (k : ℕ). runO L h (n - op - 1) (s + j) k (purse - j)) z
+              ∙ sym (run-skip-many L h (n - op - 1) s (h - s) purse here j (omega arith) l off) ∙ turn .to-come;
+        }
+
+    -- more of them than is left: the budget is spent
+    runs-out : (j : ℕ) → s + j ≤ h → purse < j → Barred s j → Done (below f starts₀ op n ii h left) n op (take op starts₀) starts₀ starts Spent
+    runs-out j m l off =
+        let r : below f starts₀ op n ii h left ≡ broke =
+        sym (turn .to-come) ∙ run-skip-broke L h (n - op - 1) s (h - s) purse here j (omega arith) l off in
+        record { says = rw r; list = rw r tt; kept = turn .kept; same-length = turn .same-length }
+
     -- where it ends
-    pub ends : h ≤ s → Done (below f starts₀ op n ii h left) n op (take op starts₀) starts₀ starts (Nothing purse)
-    ends l =
-        let z : h - s ≡ 0 = omega (arith, turn .within) in
+    ends : s ≡ h → Done (below f starts₀ op n ii h left) n op (take op starts₀) starts₀ starts (Nothing purse)
+    ends e =
+        let z : h - s ≡ 0 = omega arith in
         let r : below f starts₀ op n ii h left ≡ no-more purse =
         sym (turn .to-come) ∙ ap (λ (k : ℕ). runO L h (n - op - 1) s k purse) z ∙ run-end L h (n - op - 1) s purse in
         record { says = rw r; list = rw r tt; kept = turn .kept; same-length = turn .same-length }
@@ -194,36 +216,18 @@ module _ {f starts₀ rows₀ : List ℕ} {op n ii h : ℕ} (ready : Ready f sta
       fine = ap (legal (loopOf f) ii) (turn .kept) ∙ ready .fine;
     }
 
-    module _ (from to : ℕ) (w : WindowIs (loopOf f) ii (take op starts₀) h (length (loopOf f .deps)) from to) (o : op < n) (l : s < h) where
-      -- a start inside the window may be tried
-      pub may-try : from ≤ s → s < to → {first : ℕ} → first ≡ firstUseOf (loopOf f) op
-          → MayTry f starts rows op n ii h s first
-      may-try i j e =
-          let k = length (loopOf f .deps) in
-          record {
-            ready = still;
-            inside = o;
-            start-near = l;
-            unbroken = ap (λ (xs : List ℕ). allowed (loopOf f) ii xs k s) (turn .kept) ∙ in-window (loopOf f) ii (take op starts₀) h k from to s w l i j;
-            first-is = e;
-          }
-
-      -- one outside it takes its probe
-      pub skips : (purse ≡ 0 → ⊥) → (s < from) ⊎ (to ≤ s) → AtProbe f starts₀ rows₀ op n ii h left starts rows (purse - 1) (s + 1)
-      skips more i =
-          let in-loop : length (take op starts₀) < size (loopOf f) = omega (arith, prefix-length ready, ready .is-size) in
-          let barred : allowed (loopOf f) ii (take op starts₀) (length (loopOf f .deps)) s ≡ false = off-window (loopOf f) ii (take op starts₀) h (length (loopOf f .deps)) from to s w l i in
-          record {
-            rows-same = turn .rows-same;
-            kept = turn .kept;
-            same-length = turn .same-length;
-            within = omega arith;
-            paid = omega (arith, turn .paid);
-            to-come =
-                ap (λ (j : ℕ). runO L h (n - op - 1) j (h - j) (purse - 1)) (add-one s)
-                ∙ sym (run-skip L h (n - op - 1) s (h - suc s) purse here (barred-below (loopOf f) ii (take op starts₀) s in-loop barred) (omega arith))
-                ∙ first-apart l;
-          }
+    -- a start inside the window may be tried
+    pub may-try : (from to : ℕ) → WindowIs (loopOf f) ii (take op starts₀) h (length (loopOf f .deps)) from to → op < n → s < h → from ≤ s → s < to → {first : ℕ}
+        → first ≡ firstUseOf (loopOf f) op → MayTry f starts rows op n ii h s first
+    may-try from to w o l i j e =
+        let k = length (loopOf f .deps) in
+        record {
+          ready = still;
+          inside = o;
+          start-near = l;
+          unbroken = ap (λ (xs : List ℕ). allowed (loopOf f) ii xs k s) (turn .kept) ∙ in-window (loopOf f) ii (take op starts₀) h k from to s w l i j;
+          first-is = e;
+        }
 
     module _ {later : List ℕ} {r : Found} (l : s < h) (more : purse ≡ 0 → ⊥) (tried : Done (branch f starts op n ii h s (purse - 1)) n op (take op starts ++ s ∷ []) starts later r) where
       -- the later starts, with what is left
@@ -278,6 +282,36 @@ module _ {f starts₀ rows₀ : List ℕ} {op n ii h : ℕ} (ready : Ready f sta
         if-spent = stops;
         if-none = λ k. goes-on k same;
       }
+
+  -- ---- the starts outside the window
+
+  module _ (from to : ℕ) (w : WindowIs (loopOf f) ii (take op starts₀) h (length (loopOf f .deps)) from to) (o : op < n) where
+    -- no legal list goes on with one of them
+    outside : (t : ℕ) → t < h → (t < from) ⊎ (to ≤ t) → (q : List ℕ) → L (t ∷ q) ≡ false
+    outside t l i =
+        barred-below (loopOf f) ii (take op starts₀) t (omega (arith, prefix-length ready, ready .is-size))
+        (off-window (loopOf f) ii (take op starts₀) h (length (loopOf f .deps)) from to t w l i)
+
+    -- those below it are paid for: where the loop begins
+    pub enters : {left : ℕ} → from ≤ h → from ≤ left → AtProbe f starts₀ rows₀ op n ii h left starts₀ rows₀ (left - from) from
+    enters {left} m l =
+        subst (AtProbe f starts₀ rows₀ op n ii h left starts₀ rows₀ (left - from)) (zero-add from)
+        (passes (begins o) from (omega arith) l (λ t i j. outside t (omega arith) (inl (omega arith))))
+
+    -- the budget is spent on them
+    pub breaks-below : {left : ℕ} → from ≤ h → left < from → Done (below f starts₀ op n ii h left) n op (take op starts₀) starts₀ starts₀ Spent
+    breaks-below m l = runs-out (begins o) from (omega arith) l (λ t i j. outside t (omega arith) (inl (omega arith)))
+
+    module _ {left : ℕ} {starts rows : List ℕ} {purse s : ℕ} (turn : AtProbe f starts₀ rows₀ op n ii h left starts rows purse s) (past : to ≤ s) where
+      -- those above it are paid for: there is no list
+      pub leaves : h - s ≤ purse → Done (below f starts₀ op n ii h left) n op (take op starts₀) starts₀ starts (Nothing (purse - (h - s)))
+      leaves l =
+          let m : s + (h - s) ≡ h = omega (arith, turn .within) in
+          ends (passes turn (h - s) (omega arith) l (λ t i j. outside t (omega arith) (inr (omega arith)))) m
+
+      -- the budget is spent on them
+      pub breaks-above : purse < h - s → Done (below f starts₀ op n ii h left) n op (take op starts₀) starts₀ starts Spent
+      breaks-above l = runs-out turn (h - s) (omega (arith, turn .within)) l (λ t i j. outside t (omega (arith, turn .within)) (inr (omega arith)))
 
 -- ---- one start, which the dependences allow
 

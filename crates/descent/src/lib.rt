@@ -1,7 +1,7 @@
 // The search at one interval: two functions that call each other. `choose` takes the next operation in number order, works out its window and the number of its first
-// use once and goes through its starts; `try_start` tests one start against the table, reserves, lets `choose` go on with the next operation, and releases. A start is
-// paid for before it is looked at, so what is left of the budget falls with every turn. Internal: each function asks for an accepted file and rows that hold the
-// operations placed so far.
+// use once and goes through its starts; `try_start` tests one start against the table, reserves, lets `choose` go on with the next operation, and releases. A start
+// outside the window only costs its probe: those below are paid for at once, and so are those above. One inside it is paid for before it is looked at, so what is left of
+// the budget falls with every turn. Internal: each function asks for an accepted file and rows that hold the operations placed so far.
 mod window;
 
 use crate::window::window_of;
@@ -43,43 +43,45 @@ pub fn choose(
     }
     let w = window_of(file, op, starts, interval, horizon);
     let first = first_use(file, op);
-    let mut purse = left;
-    let mut s = 0;
-    while s < horizon {
+    let mut s = w.from;
+    if left < s {
+        return Found::Spent;
+    }
+    let mut purse = left - s;
+    while s < w.to {
         if purse == 0 {
             return Found::Spent;
         }
-        purse = purse - 1;
-        if w.from <= s {
-            if s < w.to {
-                let f = try_start(
-                    file,
-                    starts,
-                    rows,
-                    op,
-                    first,
-                    n,
-                    interval,
-                    horizon,
-                    s,
-                    purse,
-                );
-                match f {
-                    Found::All(l) => {
-                        return Found::All(l);
-                    }
-                    Found::Spent => {
-                        return Found::Spent;
-                    }
-                    Found::Nothing(l) => {
-                        purse = l;
-                    }
-                }
+        let f = try_start(
+            file,
+            starts,
+            rows,
+            op,
+            first,
+            n,
+            interval,
+            horizon,
+            s,
+            purse - 1,
+        );
+        match f {
+            Found::All(l) => {
+                return Found::All(l);
+            }
+            Found::Spent => {
+                return Found::Spent;
+            }
+            Found::Nothing(l) => {
+                purse = l;
             }
         }
         s = s + 1;
     }
-    Found::Nothing(purse)
+    let above = horizon - s;
+    if purse < above {
+        return Found::Spent;
+    }
+    Found::Nothing(purse - above)
 }
 
 // Operation `op` at s, which its window has, and the operations after it. The probe is paid for. The number of its first use, `first`, is worked out once for each

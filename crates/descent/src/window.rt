@@ -1,5 +1,5 @@
-// The window of an operation: the starts that its dependences with itself and with earlier operations allow. It is worked out once for each operation chosen, so that a
-// start outside it costs a comparison. Internal: each function asks for an accepted file.
+// The window of an operation: the starts that its dependences with itself and with earlier operations allow. It is worked out once for each operation chosen, so that the
+// starts outside it are paid for at once. Internal: each function asks for an accepted file.
 use loop_access::delay;
 use loop_access::dep_count;
 use loop_access::distance;
@@ -85,10 +85,10 @@ fn narrowed(file: &[u8], e: usize, op: usize, starts: &[u16], interval: usize, w
     w
 }
 
-// The window of an operation among the starts below the horizon.
+// The window of an operation among the starts below the horizon. One that has no start lies at the horizon.
 pub fn window_of(file: &[u8], op: usize, starts: &[u16], interval: usize, horizon: usize) -> Window
     requires { ⌜ Accepted (now file) × (op < size (loopOf (now file))) × (op ≤ length (now starts)) × Early op (now starts) × (interval ≤ 4096) ⌝ }
-    ensures { λ r. ⌜ WindowIs (loopOf (now (file .entry))) interval (take op (now (starts .entry))) horizon (length (loopOf (now (file .entry)) .deps)) (r .from) (r .to) ⌝ }
+    ensures { λ r. ⌜ WindowIs (loopOf (now (file .entry))) interval (take op (now (starts .entry))) horizon (length (loopOf (now (file .entry)) .deps)) (r .from) (r .to) × (r .from ≤ r .to) × (r .to ≤ horizon) ⌝ }
 {
     let m = dep_count(file);
     let mut w = Window {
@@ -99,6 +99,12 @@ pub fn window_of(file: &[u8], op: usize, starts: &[u16], interval: usize, horizo
     while e < m {
         w = narrowed(file, e, op, starts, interval, w);
         e = e + 1;
+    }
+    if w.to <= w.from {
+        return Window {
+            from: horizon,
+            to: horizon,
+        };
     }
     w
 }

@@ -3,9 +3,8 @@
 -- The invariant of the loop is `AtProbe`: what is left to do comes to what the whole comes to. Assumes nothing.
 use mathlib.Core.Path.{_≡_, refl, ap}
 use mathlib.Core.List.{List}
-use mathlib.Core.Logic.{inl, inr, ⊎-elim}
 use mathlib.Core.Option.{none}
-use Prim.Native.Nat.{ℕ, _+_, _-_, _*_, _<_}
+use Prim.Native.Nat.{ℕ, _+_, _-_, _*_, _<_, _≤_}
 use native.Mathlib.Omega.{arith}
 use lib.ListN.{length}
 use borrow.Fn.Kinds.{In}
@@ -14,7 +13,7 @@ use Rattle.model.specs.Loop.{opAt}
 use Rattle.model.specs.File.{loopOf}
 use Rattle.reservation.specs.Place.{firstTaken}
 use Rattle.reservation.proofs.TakenCells.{free-place, taken-place}
-use Rattle.descent.proofs.Steps.{AtProbe, AfterProbe, same-turn, leaf, begins, ends, breaks, may-try, skips, turned, op-few, unfit, can-reserve, deeper, can-release, given-back, back}
+use Rattle.descent.proofs.Steps.{AtProbe, AfterProbe, leaf, enters, breaks-below, breaks, may-try, turned, leaves, breaks-above, op-few, unfit, can-reserve, deeper, can-release, given-back, back}
 use Rattle.descent.proofs.choose.Reads as choose
 use Rattle.descent.proofs.choose.Kinds as choose-kinds
 use Rattle.descent.proofs.+choose+try_start.Lts-choose as choose-lts
@@ -57,22 +56,22 @@ calls t =
     (conflict-reads.Asked, conflict-reads.Learnt, reserve-reads.Asked, reserve-reads.Learnt, choose-below t, choose.Post, release-reads.Asked, release-reads.Learnt)
 
 abbrev choose-Inv-loop : choose-lts.InvT-loop
-choose-Inv-loop file starts₀ rows₀ op n interval horizon left w first purse₀ s₀ starts rows purse s =
-    AtProbe file starts₀ rows₀ op n interval horizon left starts rows purse s
+choose-Inv-loop file starts₀ rows₀ op n interval horizon left w first s₀ purse₀ starts rows s purse =
+    AtProbe file starts₀ rows₀ op n interval horizon left starts rows purse s × (w .from ≤ s)
 
 abbrev choose-μ-loop : choose-lts.MeasureT-loop
-choose-μ-loop file starts₀ rows₀ op n interval horizon left w first purse₀ s₀ starts rows purse s = horizon - s
+choose-μ-loop file starts₀ rows₀ op n interval horizon left w first s₀ purse₀ starts rows s purse = horizon - s
 
 -- ---- choose
 
--- the entry of choose, from its loop's head
-abbrev entry : (t : ℕ) → choose-lts.At-loop (tries t) (choose-at t) choose.Post choose-Inv-loop choose-μ-loop
+-- the entry of choose, from where its window is known
+abbrev entry : (t : ℕ) → choose-lts.After-first-use (tries t) (choose-at t) choose.Post choose-Inv-loop choose-μ-loop
     → choose-lts.Start (tries t) (choose-at t) choose.Post choose-Inv-loop choose-μ-loop
-entry t g = g .before .before .before .before .before .before .before .before
+entry t g = g .before .before .before .before .before .before .before
 
 -- there an operation is left
-inner : (t : ℕ) (g : choose-lts.At-loop (tries t) (choose-at t) choose.Post choose-Inv-loop choose-μ-loop) → entry t g .args .op < entry t g .args .n
-inner t g = omega (arith, entry t g .pre .1 .deep, g .before .before .before .before .if1 .left)
+inner : (t : ℕ) (g : choose-lts.After-first-use (tries t) (choose-at t) choose.Post choose-Inv-loop choose-μ-loop) → entry t g .args .op < entry t g .args .n
+inner t g = omega (arith, entry t g .pre .1 .deep, g .before .before .before .if1 .left)
 
 choose-returns : (t : ℕ) → choose-lts.Need-returns (tries t) (choose-at t) choose.Post choose-Inv-loop choose-μ-loop
 choose-returns t c = (leaf (c .before .before .before .before .pre .1) (c .if1 .taken), refl)
@@ -86,106 +85,137 @@ choose-first-use-requires : (t : ℕ) → choose-lts.Need-first-use-requires (tr
 choose-first-use-requires t c κs =
     let r = c .before .before .before .before .before .before .pre .1 in (r .accepted, omega (arith, r .deep, r .is-size, c .before .before .if1 .left))
 
-choose-loop-holds : (t : ℕ) → choose-lts.Need-loop-holds (tries t) (choose-at t) choose.Post choose-Inv-loop choose-μ-loop
-choose-loop-holds t c =
-    let b = c .before .before .before .before .before .before .before in begins (b .pre .1) (omega (arith, b .pre .1 .deep, c .before .before .before .if1 .left))
-
 choose-same-length : (t : ℕ) → choose-lts.Need-same-length (tries t) (choose-at t) choose.Post choose-Inv-loop choose-μ-loop
-choose-same-length t c = c .before .before .loop .inv .same-length
-
-choose-same-length-2 : (t : ℕ) → choose-lts.Need-same-length-2 (tries t) (choose-at t) choose.Post choose-Inv-loop choose-μ-loop
-choose-same-length-2 t c = ap (λ (l : List ℕ). length l) (c .before .before .loop .inv .rows-same)
+choose-same-length t c = refl
 
 choose-returns-2 : (t : ℕ) → choose-lts.Need-returns-2 (tries t) (choose-at t) choose.Post choose-Inv-loop choose-μ-loop
 choose-returns-2 t c =
-    let g = c .before .before in
-    (breaks (entry t g .pre .1) (g .loop .inv) (c .before .loop-test .taken) (c .if2 .taken), g .loop .inv .rows-same)
+    let g = c .before in
+    let w = g .before .window-of in
+    (breaks-below (entry t g .pre .1) (w .result .from) (w .result .to) (w .ensures .0) (inner t g) (omega (arith, w .ensures .1, w .ensures .2)) (c .if2 .taken), refl)
 
-choose-sub-purse : (t : ℕ) → choose-lts.Need-sub-purse (tries t) (choose-at t) choose.Post choose-Inv-loop choose-μ-loop
-choose-sub-purse t c = omega (arith, c .if2 .left)
+choose-loop-holds : (t : ℕ) → choose-lts.Need-loop-holds (tries t) (choose-at t) choose.Post choose-Inv-loop choose-μ-loop
+choose-loop-holds t c =
+    let g = c .before in
+    let w = g .before .window-of in
+    (enters (entry t g .pre .1) (w .result .from) (w .result .to) (w .ensures .0) (inner t g) (omega (arith, w .ensures .1, w .ensures .2)) (c .if2 .left), omega arith)
+
+-- where the window is known, from the loop's head
+abbrev known : (t : ℕ) → choose-lts.At-loop (tries t) (choose-at t) choose.Post choose-Inv-loop choose-μ-loop
+    → choose-lts.After-first-use (tries t) (choose-at t) choose.Post choose-Inv-loop choose-μ-loop
+known t g = g .before .before
+
+-- a start before the window's end is below the horizon
+near : (t : ℕ) (c : choose-lts.Then3 (tries t) (choose-at t) choose.Post choose-Inv-loop choose-μ-loop)
+    → c .before .before .loop .s < entry t (known t (c .before .before)) .args .horizon
+near t c = omega (arith, c .if3 .taken, known t (c .before .before) .before .window-of .ensures .2)
+
+choose-same-length-2 : (t : ℕ) → choose-lts.Need-same-length-2 (tries t) (choose-at t) choose.Post choose-Inv-loop choose-μ-loop
+choose-same-length-2 t c = c .before .before .before .loop .inv .0 .same-length
+
+choose-same-length-3 : (t : ℕ) → choose-lts.Need-same-length-3 (tries t) (choose-at t) choose.Post choose-Inv-loop choose-μ-loop
+choose-same-length-3 t c = ap (λ (l : List ℕ). length l) (c .before .before .before .loop .inv .0 .rows-same)
+
+choose-returns-3 : (t : ℕ) → choose-lts.Need-returns-3 (tries t) (choose-at t) choose.Post choose-Inv-loop choose-μ-loop
+choose-returns-3 t c =
+    let g = c .before .before .before in
+    (breaks (entry t (known t g) .pre .1) (g .loop .inv .0) (near t (c .before)) (c .if4 .taken), g .loop .inv .0 .rows-same)
+
+choose-sub-try-start : (t : ℕ) → choose-lts.Need-sub-try-start (tries t) (choose-at t) choose.Post choose-Inv-loop choose-μ-loop
+choose-sub-try-start t c = omega (arith, c .before .before .if4 .left)
 
 choose-try-start-requires : (t : ℕ) → choose-lts.Need-try-start-requires (tries t) (choose-at t) choose.Post choose-Inv-loop choose-μ-loop
 choose-try-start-requires t c κs =
-    let g = c .before .before .before .before .before .before .before .before in
-    let b = entry t g in
-    let w = g .before .before .window-of in
-    let i = c .before .before .before .before .before .before .before in (
-      omega (arith, b .pre .0, g .loop .inv .paid, c .before .before .before .before .before .before .if2 .left),
-      may-try (b .pre .1) (g .loop .inv) (w .result .from) (w .result .to) (w .ensures) (inner t g) (i .loop-test .taken) (c .before .before .before .before .if3 .taken) (c .before .before .if4 .taken) (g .before .first-use .ensures),
+    let i = c .before .before .before in
+    let g = i .before .before in
+    let b = entry t (known t g) in
+    let w = known t g .before .window-of in (
+      omega (arith, b .pre .0, g .loop .inv .0 .paid, c .before .before .if4 .left),
+      may-try (b .pre .1) (g .loop .inv .0) (w .result .from) (w .result .to) (w .ensures .0) (inner t (known t g)) (near t i) (g .loop .inv .1) (i .if3 .taken) (known t g .first-use .ensures),
     )
 
 -- after the call
 there : (t : ℕ) (f : choose-lts.After-try-start (tries t) (choose-at t) choose.Post choose-Inv-loop choose-μ-loop)
-    → let g = f .before .before .before .before .before .before .before .before .before in
-    let a = entry t g .args in
+    → let g = f .before .before .before .before .before .before in
+    let a = entry t (known t g) .args in
     AfterProbe (a .file .now) (a .starts .now) (a .rows .now) (a .op) (a .n) (a .interval) (a .horizon) (a .left)
     (f .try-start .last .1 .0) (f .try-start .last .1 .1 .0) (f .try-start .result) (g .loop .s)
 there t f =
-    let e = f .before .before .before .before .before .before .before in
-    let g = e .before .before in
-    turned (entry t g .pre .1) (g .loop .inv) (e .before .loop-test .taken) (e .if2 .left) (f .try-start .ensures .0) (f .try-start .ensures .1)
+    let e = f .before .before .before in
+    let g = e .before .before .before in
+    turned (entry t (known t g) .pre .1) (g .loop .inv .0) (near t (e .before)) (e .if4 .left) (f .try-start .ensures .0) (f .try-start .ensures .1)
 
 choose-enum-known-f : (t : ℕ) → choose-lts.Need-enum-known-f (tries t) (choose-at t) choose.Post choose-Inv-loop choose-μ-loop
 choose-enum-known-f t c = c .match .keys1
 
-choose-same-length-3 : (t : ℕ) → choose-lts.Need-same-length-3 (tries t) (choose-at t) choose.Post choose-Inv-loop choose-μ-loop
-choose-same-length-3 t c = there t (c .before .before .before .before .before .before .before) .same-length
-
 choose-same-length-4 : (t : ℕ) → choose-lts.Need-same-length-4 (tries t) (choose-at t) choose.Post choose-Inv-loop choose-μ-loop
-choose-same-length-4 t c = ap (λ (l : List ℕ). length l) (there t (c .before .before .before .before .before .before .before) .same)
+choose-same-length-4 t c = there t (c .before .before .before .before .before .before .before) .same-length
 
-choose-returns-3 : (t : ℕ) → choose-lts.Need-returns-3 (tries t) (choose-at t) choose.Post choose-Inv-loop choose-μ-loop
-choose-returns-3 t c = let h = there t (c .before .before .before .before .before .before .before) in (h .if-all _ (c .before .f .given .1), h .same)
+choose-same-length-5 : (t : ℕ) → choose-lts.Need-same-length-5 (tries t) (choose-at t) choose.Post choose-Inv-loop choose-μ-loop
+choose-same-length-5 t c = ap (λ (l : List ℕ). length l) (there t (c .before .before .before .before .before .before .before) .same)
+
+choose-returns-4 : (t : ℕ) → choose-lts.Need-returns-4 (tries t) (choose-at t) choose.Post choose-Inv-loop choose-μ-loop
+choose-returns-4 t c = let h = there t (c .before .before .before .before .before .before .before) in (h .if-all _ (c .before .f .given .1), h .same)
 
 choose-enum-told : (t : ℕ) → choose-lts.Need-enum-told (tries t) (choose-at t) choose.Post choose-Inv-loop choose-μ-loop
 choose-enum-told t c = c .match .keys2
 
-choose-same-length-5 : (t : ℕ) → choose-lts.Need-same-length-5 (tries t) (choose-at t) choose.Post choose-Inv-loop choose-μ-loop
-choose-same-length-5 t c = there t (c .before .before .before .before .before .before) .same-length
-
 choose-same-length-6 : (t : ℕ) → choose-lts.Need-same-length-6 (tries t) (choose-at t) choose.Post choose-Inv-loop choose-μ-loop
-choose-same-length-6 t c = ap (λ (l : List ℕ). length l) (there t (c .before .before .before .before .before .before) .same)
+choose-same-length-6 t c = there t (c .before .before .before .before .before .before) .same-length
 
-choose-returns-4 : (t : ℕ) → choose-lts.Need-returns-4 (tries t) (choose-at t) choose.Post choose-Inv-loop choose-μ-loop
-choose-returns-4 t c = let h = there t (c .before .before .before .before .before .before) in (h .if-spent (c .enum-told .given .1), h .same)
+choose-same-length-7 : (t : ℕ) → choose-lts.Need-same-length-7 (tries t) (choose-at t) choose.Post choose-Inv-loop choose-μ-loop
+choose-same-length-7 t c = ap (λ (l : List ℕ). length l) (there t (c .before .before .before .before .before .before) .same)
+
+choose-returns-5 : (t : ℕ) → choose-lts.Need-returns-5 (tries t) (choose-at t) choose.Post choose-Inv-loop choose-μ-loop
+choose-returns-5 t c = let h = there t (c .before .before .before .before .before .before) in (h .if-spent (c .enum-told .given .1), h .same)
 
 choose-enum-known-f-2 : (t : ℕ) → choose-lts.Need-enum-known-f-2 (tries t) (choose-at t) choose.Post choose-Inv-loop choose-μ-loop
 choose-enum-known-f-2 t c = c .match .keys3
 
+-- at the end of a turn: where it began
+abbrev turn : (t : ℕ) → choose-lts.After-known-told2 (tries t) (choose-at t) choose.Post choose-Inv-loop choose-μ-loop
+    → choose-lts.Then3 (tries t) (choose-at t) choose.Post choose-Inv-loop choose-μ-loop
+turn t c = c .before .before .before .before .before .before .before .before .before .before .before
+
 choose-add-s : (t : ℕ) → choose-lts.Need-add-s (tries t) (choose-at t) choose.Post choose-Inv-loop choose-μ-loop
-choose-add-s t c = omega (arith, c .before .before .before .loop-test .taken, entry t (c .before .before .before .before) .fits .horizon)
+choose-add-s t c = omega (arith, near t (turn t c), entry t (known t (turn t c .before .before)) .fits .horizon)
 
 choose-loop-less : (t : ℕ) → choose-lts.Need-loop-less (tries t) (choose-at t) choose.Post choose-Inv-loop choose-μ-loop
-choose-loop-less t c = omega (arith, c .before .before .before .loop-test .taken)
+choose-loop-less t c = omega (arith, near t (turn t c))
 
 choose-loop-again : (t : ℕ) → choose-lts.Need-loop-again (tries t) (choose-at t) choose.Post choose-Inv-loop choose-μ-loop
-choose-loop-again t c =
-    let g = c .before .before .before .before in
-    let b = entry t g in
-    let w = g .before .before .window-of in
-    let skip = skips (b .pre .1) (g .loop .inv) (w .result .from) (w .result .to) (w .ensures) (inner t g) (c .before .before .before .loop-test .taken) (c .before .before .if2 .left) in
-    ⊎-elim
-    (λ x. same-turn (x .13) (x .14) (x .15) (there t (record {
-      before = record {
-        before = record {
-          before = record { before = record { before = record { before = c .before; if3 = x .0 }; struct-known2 = x .1 }; if4 = x .2 };
-          try-start-arg = x .3;
-        };
-        try-start-arg2 = x .4;
-      };
-      try-start = x .5;
-    }) .if-none _ (x .11 .given .1)))
-    (⊎-elim (λ x. same-turn (x .3) (x .4) (x .5) (skip (inr (x .2 .left)))) (λ x. same-turn (x .1) (x .2) (x .3) (skip (inl (x .0 .left)))))
-    (c .if3 .came)
+choose-loop-again t c = (there t (c .before .before .before .before .before .before .before) .if-none _ (c .before .f2 .given .1), omega (arith, turn t c .before .before .loop .inv .1))
 
-choose-same-length-7 : (t : ℕ) → choose-lts.Need-same-length-7 (tries t) (choose-at t) choose.Post choose-Inv-loop choose-μ-loop
-choose-same-length-7 t c = c .before .loop .inv .same-length
+choose-sub-above : (t : ℕ) → choose-lts.Need-sub-above (tries t) (choose-at t) choose.Post choose-Inv-loop choose-μ-loop
+choose-sub-above t c = c .before .before .loop .inv .0 .within
 
 choose-same-length-8 : (t : ℕ) → choose-lts.Need-same-length-8 (tries t) (choose-at t) choose.Post choose-Inv-loop choose-μ-loop
-choose-same-length-8 t c = ap (λ (l : List ℕ). length l) (c .before .loop .inv .rows-same)
+choose-same-length-8 t c = c .before .before .before .loop .inv .0 .same-length
 
-choose-returns-5 : (t : ℕ) → choose-lts.Need-returns-5 (tries t) (choose-at t) choose.Post choose-Inv-loop choose-μ-loop
-choose-returns-5 t c = (ends (entry t (c .before) .pre .1) (c .before .loop .inv) (c .loop-test .left), c .before .loop .inv .rows-same)
+choose-same-length-9 : (t : ℕ) → choose-lts.Need-same-length-9 (tries t) (choose-at t) choose.Post choose-Inv-loop choose-μ-loop
+choose-same-length-9 t c = ap (λ (l : List ℕ). length l) (c .before .before .before .loop .inv .0 .rows-same)
+
+choose-returns-6 : (t : ℕ) → choose-lts.Need-returns-6 (tries t) (choose-at t) choose.Post choose-Inv-loop choose-μ-loop
+choose-returns-6 t c =
+    let g = c .before .before .before in
+    let w = known t g .before .window-of in (
+      breaks-above (entry t (known t g) .pre .1) (w .result .from) (w .result .to) (w .ensures .0) (inner t (known t g)) (g .loop .inv .0) (c .before .if3 .left) (c .if5 .taken),
+      g .loop .inv .0 .rows-same,
+    )
+
+choose-same-length-10 : (t : ℕ) → choose-lts.Need-same-length-10 (tries t) (choose-at t) choose.Post choose-Inv-loop choose-μ-loop
+choose-same-length-10 t c = c .before .before .before .loop .inv .0 .same-length
+
+choose-same-length-11 : (t : ℕ) → choose-lts.Need-same-length-11 (tries t) (choose-at t) choose.Post choose-Inv-loop choose-μ-loop
+choose-same-length-11 t c = ap (λ (l : List ℕ). length l) (c .before .before .before .loop .inv .0 .rows-same)
+
+choose-returns-7 : (t : ℕ) → choose-lts.Need-returns-7 (tries t) (choose-at t) choose.Post choose-Inv-loop choose-μ-loop
+choose-returns-7 t c =
+    let g = c .before .before .before in
+    let w = known t g .before .window-of in (
+      leaves (entry t (known t g) .pre .1) (w .result .from) (w .result .to) (w .ensures .0) (inner t (known t g)) (g .loop .inv .0) (c .before .if3 .left) (c .if5 .left),
+      g .loop .inv .0 .rows-same,
+    )
 
 -- ---- try_start
 
@@ -287,27 +317,33 @@ pub +choose+try-start-spec : {M : Type 1} → statement M
     (choose-returns t)
     (choose-window-of-requires t)
     (choose-first-use-requires t)
-    (choose-loop-holds t)
     (choose-same-length t)
-    (choose-same-length-2 t)
     (choose-returns-2 t)
-    (choose-sub-purse t)
+    (choose-loop-holds t)
+    (choose-same-length-2 t)
+    (choose-same-length-3 t)
+    (choose-returns-3 t)
+    (choose-sub-try-start t)
     (choose-try-start-requires t)
     (choose-enum-known-f t)
-    (choose-same-length-3 t)
     (choose-same-length-4 t)
-    (choose-returns-3 t)
-    (choose-enum-told t)
     (choose-same-length-5 t)
-    (choose-same-length-6 t)
     (choose-returns-4 t)
+    (choose-enum-told t)
+    (choose-same-length-6 t)
+    (choose-same-length-7 t)
+    (choose-returns-5 t)
     (choose-enum-known-f-2 t)
     (choose-add-s t)
     (choose-loop-less t)
     (choose-loop-again t)
-    (choose-same-length-7 t)
+    (choose-sub-above t)
     (choose-same-length-8 t)
-    (choose-returns-5 t))
+    (choose-same-length-9 t)
+    (choose-returns-6 t)
+    (choose-same-length-10 t)
+    (choose-same-length-11 t)
+    (choose-returns-7 t))
     λ t. try-start-lts.spec (calls t)
     (try-start-at t)
     try-start.Post

@@ -5,7 +5,7 @@ use native.Mathlib.Omega.{arith}
 use lib.ListN.{length, take}
 use Rattle.model.specs.File.{loopOf}
 use Rattle.descent.specs.Span.{WindowIs}
-use Rattle.descent.proofs.Spans.{window-first, window-next}
+use Rattle.descent.proofs.Spans.{window-first, window-next, window-empty, window-end}
 use Rattle.descent.proofs.window.window_of.Statement.{statement}
 use Rattle.descent.proofs.window.window_of.Tie as tie
 
@@ -37,11 +37,20 @@ loop-less c = omega arith
 loop-again : tie.Need-loop-again Inv-loop μ-loop
 loop-again c = let h = c .before .before in (omega arith, window-next _ _ _ _ (h .loop .e) _ _ _ _ (h .loop .inv .1) (c .narrowed .ensures))
 
+-- after the loop, the window is that of all dependences
+whole : (h : tie.After-loop Inv-loop μ-loop)
+    → let a = h .before .before .before .before .before .args in
+    WindowIs (loopOf (a .file .now)) (a .interval) (take (a .op) (a .starts .now)) (a .horizon) (length (loopOf (a .file .now) .deps)) (h .before .loop .w .from) (h .before .loop .w .to)
+whole h =
+    let g = h .before in
+    let n : g .loop .e ≡ length (loopOf (g .before .before .before .before .args .file .now) .deps) = omega (arith, g .before .dep-count .ensures, h .loop-test .left) in
+    rw n at (g .loop .inv .1)
+
 returns : tie.Need-returns Inv-loop μ-loop
-returns c =
-    let h = c .before in
-    let n : h .loop .e ≡ length (loopOf (h .before .before .before .before .args .file .now) .deps) = omega (arith, h .before .dep-count .ensures) in
-    rw n at (h .loop .inv .1)
+returns c = (window-empty _ _ _ _ _ _ _ (whole (c .before .before)) (c .if1 .taken), omega arith, omega arith)
+
+returns-2 : tie.Need-returns-2 Inv-loop μ-loop
+returns-2 c = (whole (c .before .before), omega arith, window-end _ _ _ _ _ _ _ (whole (c .before .before)) (c .if1 .left))
 
 pub window-of-spec : {M : Type 1} → statement M
 window-of-spec =
@@ -55,4 +64,5 @@ window-of-spec =
     add-e
     loop-less
     loop-again
-    returns)
+    returns
+    returns-2)
