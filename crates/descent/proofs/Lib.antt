@@ -2,4 +2,5 @@
 pub mod Words
 pub mod Runs
 pub mod Spans
+pub mod Skips
 pub mod Steps

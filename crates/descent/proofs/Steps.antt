@@ -5,8 +5,7 @@ use mathlib.Core.Logic.{_⊎_, inl, inr}
 use mathlib.Core.List.{List, [], _∷_, _++_, append-nil}
 use mathlib.Core.Option.{Option, none, some}
 use Prim.Native.Nat.{ℕ, suc, _+_, _-_, _≤_, _<_}
-use native.Mathlib.Nat.{zero-add}
-use native.Mathlib.Decide.{ℕ-discrete}
+use native.Mathlib.Decide.{decLt, ℕ-discrete}
 use native.Mathlib.Numerals.{add-one}
 use native.Mathlib.Omega.{arith}
 use borrow.Author.Tests.{lt-ltb, le-ltb, le-leb, lt-leb}
@@ -24,6 +23,7 @@ use Rattle.model.proofs.Legality.{legal-prefix, legal-place, legal-snoc}
 use Rattle.reservation.specs.Rows.{overUses, withBit, lessBit, UsesIn}
 use Rattle.reservation.specs.Place.{firstTaken}
 use Rattle.reservation.proofs.Placings.{legal-digits, fits-tests, fits-conflict, reserve-place, release-uses, free-conflict, conflict-free, reserve-uses, reserve-release}
+use Rattle.descent.specs.Skip.{RowsOf, NextFree}
 use Rattle.descent.specs.Span.{inside, allowed, WindowIs}
 use Rattle.descent.specs.Tree.{under, treeAnswer, treeProbes, Res, broke, all, no-more, rest, run, runO}
 use Rattle.descent.specs.Descent.{MayTry, tell, Wrote, Ready, Done, below, branch}
@@ -101,9 +101,58 @@ module _ (s n : ℕ) (p starts : List ℕ) (f : ℕ → Res) (whole : Res) where
   none-then (all a k) l e q = let z : _≡_ {A = ℕ} 0 1 = cc in absurd (omega arith)
   none-then (no-more k) l e q = let z : k ≡ l = cc in rw (e, z)
 
+-- ---- the operation after the first op starts
+
+module _ {f starts rows : List ℕ} {op n ii h : ℕ} (ready : Ready f starts rows op n ii h) (more : op < n) where
+  -- the loop is in order
+  loop-ok : LoopOk (loopOf f)
+  loop-ok = accepted-ok f (ready .accepted)
+
+  -- it is an operation of the loop
+  op-in : op < size (loopOf f)
+  op-in = omega (arith, ready .is-size)
+
+  -- these starts are op many
+  len : length (take op starts) ≡ op
+  len = length-take-le op starts (omega (arith, ready .deep, ready .long))
+
+  -- which is not all operations
+  in-loop : length (take op starts) < size (loopOf f)
+  in-loop = omega (arith, len, op-in)
+
+  -- it is not placed yet
+  open-yet : placed (take op starts) op ≡ none
+  open-yet = placed-after (take op starts) op (omega (arith, len))
+
+  -- every count of the cells is a bit
+  digits : Digits 2 (cellsOf (loopOf f) ii (placed (take op starts)))
+  digits = legal-digits (loopOf f) ii (placed (take op starts)) loop-ok (ready .fine)
+
+  -- where it meets a taken cell, no list that goes on with that start is legal
+  taken-bars : (s : ℕ) → (firstTaken ii rows s (opAt (loopOf f) op .uses) ≡ none → ⊥) → (q : List ℕ) → legal (loopOf f) ii (take op starts ++ s ∷ q) ≡ false
+  taken-bars s taken =
+      unfit-below (loopOf f) ii (take op starts) s in-loop
+      (ap (λ (o : ℕ). fitsAt (loopOf f) ii (placed (take op starts)) o s) len ∙ no-fit (fitsAt (loopOf f) ii (placed (take op starts)) op s) refl)
+    where
+      no-fit : (c : Bool) → fitsAt (loopOf f) ii (placed (take op starts)) op s ≡ c → c ≡ false
+      no-fit true e =
+          absurd (taken (conflict-free (loopOf f) ii (placed (take op starts)) op s loop-ok (ready .some) op-in open-yet rows (ready .held) digits (fits-conflict (loopOf f) ii (placed (take op starts)) op s e)))
+      no-fit false e = refl
+
+  -- what is asked to test it against rows that are the same
+  pub rows-of : {first : ℕ} {rows₁ : List ℕ} → first ≡ firstUseOf (loopOf f) op → rows₁ ≡ rows → RowsOf f rows₁ op first ii
+  rows-of e same = record {
+    accepted = ready .accepted;
+    inside = op-in;
+    first-is = e;
+    some = ready .some;
+    short = ready .short;
+    long = omega (arith, ready .held .long, ap (λ (v : List ℕ). length v) same);
+  }
+
 -- ---- the turns of `choose`
 
--- the invariant of its loop: what is left to do comes to what the whole comes to
+-- the starts below s are paid for, and what is left to do comes to what the whole comes to
 pub record AtProbe (f starts₀ rows₀ : List ℕ) (op n ii h left : ℕ) (starts rows : List ℕ) (purse s : ℕ) : Type 0 where
   pub rows-same : rows ≡ rows₀
   pub kept : take op starts ≡ take op starts₀
@@ -112,6 +161,14 @@ pub record AtProbe (f starts₀ rows₀ : List ℕ) (op n ii h left : ℕ) (star
   pub paid : purse ≤ left
   pub to-come : runO (under (legal (loopOf f) ii) (take op starts₀)) h (n - op - 1) s (h - s) purse ≡ below f starts₀ op n ii h left
 
+-- the invariant of its loop: s is the next start to try, in the window from .. to - 1; those below `paid` are paid for, and no legal list goes on with one from there to s - 1
+pub record AtStart (f starts₀ rows₀ : List ℕ) (op n ii h left from to : ℕ) (starts rows : List ℕ) (purse paid s : ℕ) : Type 0 where
+  pub turn : AtProbe f starts₀ rows₀ op n ii h left starts rows purse paid
+  pub behind : paid ≤ s
+  pub begun : from ≤ s
+  pub ahead : s ≤ to
+  pub barred : (t : ℕ) → paid ≤ t → t < s → (q : List ℕ) → legal (loopOf f) ii (take op starts₀ ++ t ∷ q) ≡ false
+
 -- the three answers of a start that was tried
 pub record AfterProbe (f starts₀ rows₀ : List ℕ) (op n ii h left : ℕ) (later rows : List ℕ) (r : Found) (s : ℕ) : Type 0 where
   pub same : rows ≡ rows₀
@@ -119,10 +176,6 @@ pub record AfterProbe (f starts₀ rows₀ : List ℕ) (op n ii h left : ℕ) (l
   pub if-all : (k : ℕ) → r ≡ All k → Done (below f starts₀ op n ii h left) n op (take op starts₀) starts₀ later (All k)
   pub if-spent : r ≡ Spent → Done (below f starts₀ op n ii h left) n op (take op starts₀) starts₀ later Spent
   pub if-none : (k : ℕ) → r ≡ Nothing k → AtProbe f starts₀ rows₀ op n ii h left later rows k (s + 1)
-
--- the first op starts are op many
-prefix-length : {f starts rows : List ℕ} {op n ii h : ℕ} → Ready f starts rows op n ii h → length (take op starts) ≡ op
-prefix-length {starts = starts} {op = op} ready = length-take-le op starts (omega (arith, ready .deep, ready .long))
 
 module _ {f starts₀ rows₀ : List ℕ} {op n ii h : ℕ} (ready : Ready f starts₀ rows₀ op n ii h) where
   -- which lists are legal after the first op starts
@@ -195,8 +248,8 @@ module _ {f starts₀ rows₀ : List ℕ} {op n ii h : ℕ} (ready : Ready f sta
     first-apart l = let z : suc (h - suc s) ≡ h - s = omega arith in ap (λ (k : ℕ). runO L h (n - op - 1) s k purse) z ∙ turn .to-come
 
     -- where nothing is left of the budget
-    pub breaks : s < h → purse ≡ 0 → Done (below f starts₀ op n ii h left) n op (take op starts₀) starts₀ starts Spent
-    breaks l e =
+    nothing-left : s < h → purse ≡ 0 → Done (below f starts₀ op n ii h left) n op (take op starts₀) starts₀ starts Spent
+    nothing-left l e =
         let r : below f starts₀ op n ii h left ≡ broke =
         sym (first-apart l) ∙ ap (λ (b : ℕ). runO L h (n - op - 1) s (suc (h - suc s)) b) e ∙ run-broke L h (n - op - 1) s (h - suc s) here in
         record { says = rw r; list = rw r tt; kept = turn .kept; same-length = turn .same-length }
@@ -283,35 +336,69 @@ module _ {f starts₀ rows₀ : List ℕ} {op n ii h : ℕ} (ready : Ready f sta
         if-none = λ k. goes-on k same;
       }
 
-  -- ---- the starts outside the window
-
-  module _ (from to : ℕ) (w : WindowIs (loopOf f) ii (take op starts₀) h (length (loopOf f .deps)) from to) (o : op < n) where
-    -- no legal list goes on with one of them
+  module _ (from to : ℕ) (w : WindowIs (loopOf f) ii (take op starts₀) h (length (loopOf f .deps)) from to) (near : to ≤ h) (o : op < n) where
+    -- no legal list goes on with a start outside the window
     outside : (t : ℕ) → t < h → (t < from) ⊎ (to ≤ t) → (q : List ℕ) → L (t ∷ q) ≡ false
     outside t l i =
-        barred-below (loopOf f) ii (take op starts₀) t (omega (arith, prefix-length ready, ready .is-size))
+        barred-below (loopOf f) ii (take op starts₀) t (in-loop ready o)
         (off-window (loopOf f) ii (take op starts₀) h (length (loopOf f .deps)) from to t w l i)
 
-    -- those below it are paid for: where the loop begins
-    pub enters : {left : ℕ} → from ≤ h → from ≤ left → AtProbe f starts₀ rows₀ op n ii h left starts₀ rows₀ (left - from) from
-    enters {left} m l =
-        subst (AtProbe f starts₀ rows₀ op n ii h left starts₀ rows₀ (left - from)) (zero-add from)
-        (passes (begins o) from (omega arith) l (λ t i j. outside t (omega arith) (inl (omega arith))))
+    -- the next start of the window that the rows leave free is the next to try: no legal list goes on with one below the window, or with one that they exclude
+    stands : {left : ℕ} {starts rows : List ℕ} {purse paid x s : ℕ} → AtProbe f starts₀ rows₀ op n ii h left starts rows purse paid → NextFree ii rows (opAt (loopOf f) op .uses) x to s
+        → paid ≤ x → from ≤ x → ((t : ℕ) → paid ≤ t → t < x → t < from) → AtStart f starts₀ rows₀ op n ii h left from to starts rows purse paid s
+    stands {left} {starts} {rows} {purse} {paid} {x} {s} turn next i j low = record {
+      turn = turn;
+      behind = omega (arith, next .behind);
+      begun = omega (arith, next .behind);
+      ahead = next .ahead;
+      barred = λ t l m. pick t l m (decLt t x);
+    }
+      where
+        pick : (t : ℕ) → paid ≤ t → t < s → Dec (t < x) → (q : List ℕ) → L (t ∷ q) ≡ false
+        pick t l m (yes b) = outside t (omega (arith, next .ahead)) (inl (low t l b))
+        pick t l m (no b) = taken-bars ready o t (λ e. next .taken t (omega arith) m (ap (λ (v : List ℕ). firstTaken ii v t (opAt (loopOf f) op .uses)) (turn .rows-same) ∙ e))
 
-    -- the budget is spent on them
-    pub breaks-below : {left : ℕ} → from ≤ h → left < from → Done (below f starts₀ op n ii h left) n op (take op starts₀) starts₀ starts₀ Spent
-    breaks-below m l = runs-out (begins o) from (omega arith) l (λ t i j. outside t (omega arith) (inl (omega arith)))
+    -- where the loop begins
+    pub enters : {left s : ℕ} → NextFree ii rows₀ (opAt (loopOf f) op .uses) from to s → AtStart f starts₀ rows₀ op n ii h left from to starts₀ rows₀ left 0 s
+    enters next = stands (begins o) next (omega arith) (omega arith) (λ t l m. m)
 
-    module _ {left : ℕ} {starts rows : List ℕ} {purse s : ℕ} (turn : AtProbe f starts₀ rows₀ op n ii h left starts rows purse s) (past : to ≤ s) where
-      -- those above it are paid for: there is no list
-      pub leaves : h - s ≤ purse → Done (below f starts₀ op n ii h left) n op (take op starts₀) starts₀ starts (Nothing (purse - (h - s)))
-      leaves l =
-          let m : s + (h - s) ≡ h = omega (arith, turn .within) in
-          ends (passes turn (h - s) (omega arith) l (λ t i j. outside t (omega arith) (inr (omega arith)))) m
+    -- and goes on
+    pub moves : {left : ℕ} {starts rows : List ℕ} {purse x s : ℕ} → AtProbe f starts₀ rows₀ op n ii h left starts rows purse x → NextFree ii rows (opAt (loopOf f) op .uses) x to s → from ≤ x
+        → AtStart f starts₀ rows₀ op n ii h left from to starts rows purse x s
+    moves turn next j = stands turn next (omega arith) j (λ t l m. absurd (omega arith))
 
-      -- the budget is spent on them
-      pub breaks-above : purse < h - s → Done (below f starts₀ op n ii h left) n op (take op starts₀) starts₀ starts Spent
-      breaks-above l = runs-out turn (h - s) (omega (arith, turn .within)) l (λ t i j. outside t (omega (arith, turn .within)) (inr (omega arith)))
+    module _ {left : ℕ} {starts rows : List ℕ} {purse paid s : ℕ} (at : AtStart f starts₀ rows₀ op n ii h left from to starts rows purse paid s) where
+      -- what was passed over is paid for
+      pub arrives : s - paid ≤ purse → AtProbe f starts₀ rows₀ op n ii h left starts rows (purse - (s - paid)) s
+      arrives l =
+          let e : paid + (s - paid) ≡ s = omega (arith, at .behind) in
+          subst (AtProbe f starts₀ rows₀ op n ii h left starts rows (purse - (s - paid))) e
+          (passes (at .turn) (s - paid) (omega (arith, at .ahead)) l (λ t i j. at .barred t i (omega arith)))
+
+      -- the budget is spent on that, or nothing is left for s
+      pub breaks : s < to → purse ≤ s - paid → Done (below f starts₀ op n ii h left) n op (take op starts₀) starts₀ starts Spent
+      breaks i l = pick (decLt purse (s - paid))
+        where
+          pick : Dec (purse < s - paid) → Done (below f starts₀ op n ii h left) n op (take op starts₀) starts₀ starts Spent
+          pick (yes m) = runs-out (at .turn) (s - paid) (omega (arith, at .ahead, at .behind)) m (λ t j k. at .barred t j (omega arith))
+          pick (no m) = nothing-left (arrives (omega arith)) (omega arith) (omega arith)
+
+      -- past the window no legal list goes on with what is left
+      rest-barred : to ≤ s → Barred paid (h - paid)
+      rest-barred past t i j = pick (decLt t s)
+        where
+          pick : Dec (t < s) → (q : List ℕ) → L (t ∷ q) ≡ false
+          pick (yes b) = at .barred t i b
+          pick (no b) = outside t (omega (arith, at .turn .within)) (inr (omega arith))
+
+      -- which is paid for: there is no list
+      pub leaves : to ≤ s → h - paid ≤ purse → Done (below f starts₀ op n ii h left) n op (take op starts₀) starts₀ starts (Nothing (purse - (h - paid)))
+      leaves past l =
+          let m : paid + (h - paid) ≡ h = omega (arith, at .turn .within) in ends (passes (at .turn) (h - paid) (omega arith) l (rest-barred past)) m
+
+      -- or the budget is spent on it
+      pub breaks-above : to ≤ s → purse < h - paid → Done (below f starts₀ op n ii h left) n op (take op starts₀) starts₀ starts Spent
+      breaks-above past l = runs-out (at .turn) (h - paid) (omega (arith, at .turn .within)) l (rest-barred past)
 
 -- ---- one start, which the dependences allow
 
@@ -319,6 +406,10 @@ module _ {f starts rows : List ℕ} {op n ii h s first : ℕ} (asked : MayTry f 
   -- where the search stands
   abbrev ready : Ready f starts rows op n ii h
   ready = asked .ready
+
+  -- at an operation of the loop
+  abbrev more : op < n
+  more = asked .inside
 
   -- the operation
   abbrev p : Op
@@ -332,45 +423,15 @@ module _ {f starts rows : List ℕ} {op n ii h s first : ℕ} (asked : MayTry f 
   abbrev reserved : List ℕ
   reserved = overUses withBit ii s (p .uses) (length (p .uses)) rows
 
-  -- the loop is in order
-  loop-ok : LoopOk (loopOf f)
-  loop-ok = accepted-ok f (ready .accepted)
-
-  -- it is an operation of the loop
-  op-in : op < size (loopOf f)
-  op-in = omega (arith, asked .inside, ready .is-size)
-
   -- it is one of 64
   pub op-few : op < 64
-  op-few = omega (arith, op-in, loop-ok .few)
-
-  -- it is the one after the prefix
-  len : length (take op starts) ≡ op
-  len = prefix-length ready
-
-  -- which is not all operations
-  in-loop : length (take op starts) < size (loopOf f)
-  in-loop = omega (arith, len, op-in)
-
-  -- it is not placed yet
-  open-yet : placing op ≡ none
-  open-yet = placed-after (take op starts) op (omega (arith, len))
-
-  -- every count of the cells is a bit
-  digits : Digits 2 (cellsOf (loopOf f) ii placing)
-  digits = legal-digits (loopOf f) ii placing loop-ok (ready .fine)
+  op-few = omega (arith, op-in ready more, loop-ok ready more .few)
 
   -- it meets a taken cell: nothing begins with it
   pub unfit : {b : ℕ} → (firstTaken ii rows s (p .uses) ≡ none → ⊥) → Done (branch f starts op n ii h s b) n op (take op starts ++ s ∷ []) starts starts (Nothing b)
   unfit {b} taken =
-      let below-s = unfit-below (loopOf f) ii (take op starts) s in-loop (ap (λ (o : ℕ). fitsAt (loopOf f) ii placing o s) len ∙ no-fit (fitsAt (loopOf f) ii placing op s) refl) in
-      let r : branch f starts op n ii h s b ≡ no-more b = run-unfit (under (under (legal (loopOf f) ii) (take op starts)) (s ∷ [])) h (n - op - 1) b below-s in
+      let r : branch f starts op n ii h s b ≡ no-more b = run-unfit (under (under (legal (loopOf f) ii) (take op starts)) (s ∷ [])) h (n - op - 1) b (taken-bars ready more s taken) in
       record { says = rw r; list = rw r tt; kept = refl; same-length = refl }
-    where
-      no-fit : (c : Bool) → fitsAt (loopOf f) ii placing op s ≡ c → c ≡ false
-      no-fit true e =
-          absurd (taken (conflict-free (loopOf f) ii placing op s loop-ok (ready .some) op-in open-yet rows (ready .held) digits (fits-conflict (loopOf f) ii placing op s e)))
-      no-fit false e = refl
 
   -- the starts with one more
   one-more : take (op + 1) (set starts op s) ≡ take op starts ++ s ∷ []
@@ -378,32 +439,32 @@ module _ {f starts rows : List ℕ} {op n ii h s first : ℕ} (asked : MayTry f 
 
   -- which place it too
   next-placing : placed (take (op + 1) (set starts op s)) ≡ placeAt placing op s
-  next-placing = ap placed one-more ∙ placed-snoc (take op starts) s ∙ ap (λ (o : ℕ). placeAt placing o s) len
+  next-placing = ap placed one-more ∙ placed-snoc (take op starts) s ∙ ap (λ (o : ℕ). placeAt placing o s) (len ready more)
 
   module _ (free : firstTaken ii rows s (p .uses) ≡ none) where
     -- it does not conflict
     clear : conflicts (loopOf f) ii placing op s ≡ false
-    clear = free-conflict (loopOf f) ii placing op s loop-ok (ready .some) op-in open-yet rows (ready .held) digits free
+    clear = free-conflict (loopOf f) ii placing op s (loop-ok ready more) (ready .some) (op-in ready more) (open-yet ready more) rows (ready .held) (digits ready more) free
 
     -- so it can be reserved
     pub can-reserve : UsesIn 0 rows ii s (p .uses)
-    can-reserve = reserve-uses (loopOf f) ii placing op s loop-ok (ready .some) op-in open-yet rows (ready .held) digits (omega (arith, asked .start-near, ready .near)) clear
+    can-reserve = reserve-uses (loopOf f) ii placing op s (loop-ok ready more) (ready .some) (op-in ready more) (open-yet ready more) rows (ready .held) (digits ready more) (omega (arith, asked .start-near, ready .near)) clear
 
     -- the table with it
     with-it : {rows₁ : List ℕ} → rows₁ ≡ reserved → IsTable 2 ii (cellsOf (loopOf f) ii (placeAt placing op s)) rows₁
-    with-it e = rw e (reserve-place (loopOf f) ii placing op s loop-ok (ready .some) op-in open-yet rows (ready .held))
+    with-it e = rw e (reserve-place (loopOf f) ii placing op s (loop-ok ready more) (ready .some) (op-in ready more) (open-yet ready more) rows (ready .held))
 
     -- it fits
     fits-here : fitsAt (loopOf f) ii placing op s ≡ true
     fits-here =
-        ap (λ (o : ℕ). fitsAt (loopOf f) ii placing o s) (sym len) ∙ fits-next (loopOf f) ii (take op starts) s
+        ap (λ (o : ℕ). fitsAt (loopOf f) ii placing o s) (sym (len ready more)) ∙ fits-next (loopOf f) ii (take op starts) s
         ∙ and-both (allowed (loopOf f) ii (take op starts) (length (loopOf f .deps)) s) _ (asked .unbroken)
-        (ap (λ (o : ℕ). not (conflicts (loopOf f) ii placing o s)) len ∙ false-not (conflicts (loopOf f) ii placing op s) clear)
+        (ap (λ (o : ℕ). not (conflicts (loopOf f) ii placing o s)) (len ready more) ∙ false-not (conflicts (loopOf f) ii placing op s) clear)
 
     -- so the placing with it is legal
     legal-with : legalAt (loopOf f) ii (placeAt placing op s) ≡ true
     legal-with =
-        legal-place (loopOf f) ii placing op s op-in open-yet
+        legal-place (loopOf f) ii placing op s (op-in ready more) (open-yet ready more)
         ∙ and-both (legalAt (loopOf f) ii placing) (fitsAt (loopOf f) ii placing op s) (ready .fine) fits-here
 
     -- the search stands one operation deeper
@@ -429,12 +490,12 @@ module _ {f starts rows : List ℕ} {op n ii h s first : ℕ} (asked : MayTry f 
       -- the rows as they were after reserving: it can be released
       pub can-release : UsesIn 1 rows₂ ii s (p .uses)
       can-release =
-          release-uses (loopOf f) ii placing op s loop-ok (ready .some) op-in open-yet (omega (arith, asked .start-near, ready .near)) rows₂ (with-it (same ∙ put))
-          (legal-digits (loopOf f) ii (placeAt placing op s) loop-ok legal-with)
+          release-uses (loopOf f) ii placing op s (loop-ok ready more) (ready .some) (op-in ready more) (open-yet ready more) (omega (arith, asked .start-near, ready .near)) rows₂ (with-it (same ∙ put))
+          (legal-digits (loopOf f) ii (placeAt placing op s) (loop-ok ready more) legal-with)
 
       -- which gives the first rows back
       pub given-back : {rows₃ : List ℕ} → rows₃ ≡ overUses lessBit ii s (p .uses) (length (p .uses)) rows₂ → rows₃ ≡ rows
-      given-back e = e ∙ ap (overUses lessBit ii s (p .uses) (length (p .uses))) (same ∙ put) ∙ reserve-release ii s p (loop-ok .op-ok op op-in) (ready .some) (cellsOf (loopOf f) ii placing) rows (ready .held)
+      given-back e = e ∙ ap (overUses lessBit ii s (p .uses) (length (p .uses))) (same ∙ put) ∙ reserve-release ii s p (loop-ok ready more .op-ok op (op-in ready more)) (ready .some) (cellsOf (loopOf f) ii placing) rows (ready .held)
 
   -- what the operations after it come to is what its branch comes to
   pub back : (b : ℕ) {later : List ℕ} {r : Found} → Done (below f (set starts op s) (op + 1) n ii h b) n (op + 1) (take (op + 1) (set starts op s)) (set starts op s) later r

@@ -1,3 +1,4 @@
 pub mod Descent
+pub mod Skip
 pub mod Span
 pub mod Tree

@@ -1,15 +1,17 @@
 // The search at one interval: two functions that call each other. `choose` takes the next operation in number order, works out its window and the number of its first
-// use once and goes through its starts; `try_start` tests one start against the table, reserves, lets `choose` go on with the next operation, and releases. A start
-// outside the window only costs its probe: those below are paid for at once, and so are those above. One inside it is paid for before it is looked at, so what is left of
-// the budget falls with every turn. Internal: each function asks for an accepted file and rows that hold the operations placed so far.
+// use once, and goes through the starts of the window that the rows leave free; `try_start` tests one start against the rows, reserves, lets `choose` go on with the next
+// operation, and releases. A start that the window or the rows exclude only costs its probe, and all those before the next start to try, or after the last, are paid for
+// at once. A start is paid for before it is tried, so what is left of the budget falls with every turn. Internal: each function asks for an accepted file and rows that
+// hold the operations placed so far.
+mod skip;
 mod window;
 
+use crate::skip::excluded;
+use crate::skip::next_free;
 use crate::window::window_of;
 use loop_access::first_use;
-use reservation::Place;
 use reservation::cells::release;
 use reservation::cells::reserve;
-use reservation::test::conflict;
 ghost use mathlib.Core.Path.{_≡_};
 ghost use mathlib.Core.List.{[], _∷_, _++_};
 ghost use Prim.Native.Nat.{_<_};
@@ -43,13 +45,12 @@ pub fn choose(
     }
     let w = window_of(file, op, starts, interval, horizon);
     let first = first_use(file, op);
-    let mut s = w.from;
-    if left < s {
-        return Found::Spent;
-    }
-    let mut purse = left - s;
+    let mut purse = left;
+    let mut paid = 0;
+    let mut s = next_free(file, op, first, w.from, w.to, interval, rows);
     while s < w.to {
-        if purse == 0 {
+        let passed = s - paid;
+        if purse <= passed {
             return Found::Spent;
         }
         let f = try_start(
@@ -62,7 +63,7 @@ pub fn choose(
             interval,
             horizon,
             s,
-            purse - 1,
+            purse - passed - 1,
         );
         match f {
             Found::All(l) => {
@@ -75,9 +76,10 @@ pub fn choose(
                 purse = l;
             }
         }
-        s = s + 1;
+        paid = s + 1;
+        s = next_free(file, op, first, paid, w.to, interval, rows);
     }
-    let above = horizon - s;
+    let above = horizon - paid;
     if purse < above {
         return Found::Spent;
     }
@@ -102,10 +104,9 @@ fn try_start(
     ensures done { λ r. ⌜ Done (branch (now (file .entry)) (now (starts .entry)) op n interval horizon s left) n op (take op (now (starts .entry)) ++ s ∷ []) (now (starts .entry)) (now (starts .exit)) r ⌝ }
     ensures same { λ r. ⌜ now (rows .exit) ≡ now (rows .entry) ⌝ }
 {
-    let place = conflict(file, op, first, s, interval, rows);
-    let Place::Free = place else {
+    if 0 < excluded(file, op, first, s, interval, rows) {
         return Found::Nothing(left);
-    };
+    }
     starts[op] = s as u16;
     reserve(file, op, first, s, interval, rows);
     let f = choose(file, starts, rows, op + 1, n, interval, horizon, left);

@@ -1,16 +1,17 @@
 -- The conflict test's two searches: over the uses in one cycle, and over the cycles. Assumes nothing.
 use mathlib.Core.Path.{_≡_, refl, ap, _∙_}
-use mathlib.Core.Bool.{false, and-false}
+use mathlib.Core.Bool.{true, false, and-false, or-true, or-false}
 use mathlib.Core.List.{List, [], _∷_}
 use mathlib.Core.Option.{Option, none, some}
 use Prim.Native.Nat.{ℕ, zero, suc, _+_, _≤_, _<_, max}
 use native.Mathlib.Decide.{decLt}
 use native.Mathlib.Omega.{arith}
-use lib.Dec.{leb}
+use lib.Dec.{eqb, leb}
 use lib.ListN.{length, getD, take}
-use borrow.Author.Tests.{le-ltb}
+use borrow.Author.Tests.{le-leb, lt-leb, lt-ltb, le-ltb, eq-eqb}
 use Rattle.model.specs.Lists.{first, maxOf}
 use Rattle.model.specs.Loop.{Use, noUse}
+use Rattle.model.specs.Table.{digitOf}
 use Rattle.reservation.specs.Place.{takenBy, takenIn, cyclesOf, cycleIs, rowAt, takenAt, firstTaken, placeOf, placeIs}
 use Rattle.reservation.specs.declared.Place.{Place}
 use Rattle.reservation.specs.declared.Place.the-variants.{Free, Taken}
@@ -18,9 +19,27 @@ use Rattle.reservation.specs.declared.test.Cycle.{Cycle}
 use Rattle.reservation.specs.declared.test.Cycle.the-variants as cycle
 use Rattle.model.proofs.Firsts.{grid-not, grid-at}
 
--- a use that is over meets nothing
-pub use-over : (ii row k : ℕ) (u : Use) → u .offset + u .duration ≤ k → takenBy ii row k u ≡ false
-use-over ii row k u h = rw (le-ltb k (u .offset + u .duration) h, and-false (leb (u .offset) k))
+-- what a use meets in cycle k, which falls into the row given
+module _ (ii row k : ℕ) (u : Use) where
+  -- before its first cycle nothing
+  pub use-early : k < u .offset → takenBy ii row k u ≡ false
+  use-early h = rw (lt-leb (u .offset) k h)
+
+  -- when it is over nothing
+  pub use-over : u .offset + u .duration ≤ k → takenBy ii row k u ≡ false
+  use-over h = rw (le-ltb k (u .offset + u .duration) h, and-false (leb (u .offset) k))
+
+  -- while it lasts, itself from the interval on
+  pub use-self : u .offset ≤ k → k < u .offset + u .duration → u .offset + ii ≤ k → takenBy ii row k u ≡ true
+  use-self p q h = rw (le-leb (u .offset) k p, lt-ltb k (u .offset + u .duration) q, le-leb (u .offset + ii) k h) (or-true (eqb (digitOf 2 row (u .slot)) 1))
+
+  -- and before that what the row's bit says
+  pub use-bit : u .offset ≤ k → k < u .offset + u .duration → k < u .offset + ii → takenBy ii row k u ≡ eqb (digitOf 2 row (u .slot)) 1
+  use-bit p q h = rw (le-leb (u .offset) k p, lt-ltb k (u .offset + u .duration) q, lt-leb (u .offset + ii) k h) (or-false _)
+
+  -- the bit alone is enough
+  pub use-met : u .offset ≤ k → k < u .offset + u .duration → digitOf 2 row (u .slot) ≡ 1 → takenBy ii row k u ≡ true
+  use-met p q e = rw (le-leb (u .offset) k p, lt-ltb k (u .offset + u .duration) q, eq-eqb (digitOf 2 row (u .slot)) 1 e)
 
 -- and so nothing is found in a cycle past those that the uses cover
 cycles-over : (ii row k : ℕ) (us : List Use) → cyclesOf us ≤ k → takenIn ii row k us ≡ none
