@@ -11,13 +11,15 @@ use native.Mathlib.Omega.{arith}
 use borrow.Author.Tests.{lt-ltb, le-ltb, le-leb, lt-leb}
 use lib.Dec.{leb, ltb}
 use lib.ListN.{length, take, getD, set, length-set}
-use lib.Seq.{append-snoc, take-suc-set, take-take, take-set-le, length-take-le, getD-take, getD-set-same, getD-set-other}
-use Rattle.model.specs.Loop.{Op, Loop, size, opAt, firstUseOf, LoopOk}
+use lib.Seq.{append-snoc, take-suc, take-suc-set, take-take, take-set-le, length-take-le, getD-take, getD-set-same, getD-set-other}
+use Rattle.model.specs.Lists.{sumOf}
+use Rattle.model.specs.Loop.{Op, Loop, noOp, size, opAt, firstUseOf, LoopOk}
 use Rattle.model.specs.File.{loopOf}
 use Rattle.model.specs.Legality.{Placing, placed, legalAt, legal, placeAt, conflicts, fitsAt}
 use Rattle.model.specs.Table.{cellsOf, IsTable, Digits}
-use Rattle.model.proofs.Lists.{false-not, and-both}
+use Rattle.model.proofs.Lists.{false-not, and-both, sum-append}
 use Rattle.model.proofs.File.{accepted-ok}
+use Rattle.model.proofs.Loop.{use-within, all-few}
 use Rattle.model.proofs.StartLists.{placed-after, placed-snoc}
 use Rattle.model.proofs.Legality.{legal-prefix, legal-place, legal-snoc}
 use Rattle.reservation.specs.Rows.{overUses, withBit, lessBit, UsesIn}
@@ -426,6 +428,19 @@ module _ {f starts rows : List ℕ} {op n ii h s first : ℕ} (asked : MayTry f 
   -- it is one of 64
   pub op-few : op < 64
   op-few = omega (arith, op-in ready more, loop-ok ready more .few)
+
+  -- the first use of the next operation comes after its own
+  pub next-use : {k : ℕ} → k ≡ length (p .uses) → first + k ≡ firstUseOf (loopOf f) (op + 1)
+  unfolding firstUseOf sumOf
+  next-use {k} e =
+      let z : take (op + 1) (loopOf f .ops) ≡ take op (loopOf f .ops) ++ (p ∷ []) = ap (λ (j : ℕ). take j (loopOf f .ops)) (add-one op) ∙ take-suc (loopOf f .ops) op noOp (op-in ready more) in
+      let q = sum-append (λ (o : Op). length (o .uses)) (take op (loopOf f .ops)) (p ∷ []) in
+      let y : sumOf (λ (o : Op). length (o .uses)) (take (op + 1) (loopOf f .ops)) ≡ sumOf (λ (o : Op). length (o .uses)) (take op (loopOf f .ops)) + (length (p .uses) + 0) = ap (sumOf (λ (o : Op). length (o .uses))) z ∙ q in
+      omega (arith, y, asked .first-is)
+
+  -- the number of which is small
+  pub next-few : {k : ℕ} → k ≡ length (p .uses) → first + k ≤ 256
+  next-few e = omega (arith, use-within (loopOf f) op (op-in ready more), asked .first-is, all-few (loopOf f) (loop-ok ready more))
 
   -- it meets a taken cell: nothing begins with it
   pub unfit : {b : ℕ} → (firstTaken ii rows s (p .uses) ≡ none → ⊥) → Done (branch f starts op n ii h s b) n op (take op starts ++ s ∷ []) starts starts (Nothing b)

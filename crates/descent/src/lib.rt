@@ -8,14 +8,19 @@ mod window;
 
 use crate::skip::excluded;
 use crate::skip::next_free;
+use crate::window::link;
 use crate::window::window_of;
 use loop_access::first_use;
+use loop_access::use_count;
 use reservation::cells::release;
 use reservation::cells::reserve;
 ghost use mathlib.Core.Path.{_≡_};
 ghost use mathlib.Core.List.{[], _∷_, _++_};
 ghost use Prim.Native.Nat.{_<_};
 ghost use lib.ListN.{take};
+ghost use Rattle.model.specs.Loop.{firstUseOf};
+ghost use Rattle.model.specs.File.{loopOf};
+ghost use Rattle.descent.specs.Links.{Linked};
 ghost use Rattle.descent.specs.Descent.{Ready, MayTry, Done, below, branch};
 
 // What a part of the search comes to: every operation has a start, and so much is left of the budget; the budget is spent; there is no list, and so much is left.
@@ -25,7 +30,7 @@ pub enum Found {
     Nothing(usize),
 }
 
-// The starts of operation `op` and of those after it.
+// The starts of operation `op` and of those after it. What is the same for all of them is worked out here, once.
 pub fn choose(
     file: &[u8],
     starts: &mut [u16],
@@ -43,8 +48,43 @@ pub fn choose(
     if op == n {
         return Found::All(left);
     }
-    let w = window_of(file, op, starts, interval, horizon);
+    let links = link(file);
     let first = first_use(file, op);
+    pick(
+        file,
+        &links,
+        starts,
+        rows,
+        op,
+        first,
+        n,
+        interval,
+        horizon,
+        left,
+    )
+}
+
+// The same, with the index of the dependences and the number of the operation's first use at hand.
+fn pick(
+    file: &[u8],
+    links: &[u16; 320],
+    starts: &mut [u16],
+    rows: &mut [u64],
+    op: usize,
+    first: usize,
+    n: usize,
+    interval: usize,
+    horizon: usize,
+    left: usize,
+) -> Found
+    requires { ⌜ Ready (now file) (now starts) (now rows) op n interval horizon × Linked (loopOf (now file)) (now links) × (first ≡ firstUseOf (loopOf (now file)) op) ⌝ }
+    ensures done { λ r. ⌜ Done (below (now (file .entry)) (now (starts .entry)) op n interval horizon left) n op (take op (now (starts .entry))) (now (starts .entry)) (now (starts .exit)) r ⌝ }
+    ensures same { λ r. ⌜ now (rows .exit) ≡ now (rows .entry) ⌝ }
+{
+    if op == n {
+        return Found::All(left);
+    }
+    let w = window_of(file, links, op, starts, interval, horizon);
     let mut purse = left;
     let mut paid = 0;
     let mut s = next_free(file, op, first, w.from, w.to, interval, rows);
@@ -55,6 +95,7 @@ pub fn choose(
         }
         let f = try_start(
             file,
+            links,
             starts,
             rows,
             op,
@@ -86,10 +127,11 @@ pub fn choose(
     Found::Nothing(purse - above)
 }
 
-// Operation `op` at s, which its window has, and the operations after it. The probe is paid for. The number of its first use, `first`, is worked out once for each
-// chosen operation, and so handed in.
+// Operation `op` at s, which its window has, and the operations after it. The probe is paid for. The number of its first use, `first`, is handed in, and that of the next
+// operation is as many more as this one has uses.
 fn try_start(
     file: &[u8],
+    links: &[u16; 320],
     starts: &mut [u16],
     rows: &mut [u64],
     op: usize,
@@ -100,7 +142,7 @@ fn try_start(
     s: usize,
     left: usize,
 ) -> Found
-    requires { ⌜ MayTry (now file) (now starts) (now rows) op n interval horizon s first ⌝ }
+    requires { ⌜ MayTry (now file) (now starts) (now rows) op n interval horizon s first × Linked (loopOf (now file)) (now links) ⌝ }
     ensures done { λ r. ⌜ Done (branch (now (file .entry)) (now (starts .entry)) op n interval horizon s left) n op (take op (now (starts .entry)) ++ s ∷ []) (now (starts .entry)) (now (starts .exit)) r ⌝ }
     ensures same { λ r. ⌜ now (rows .exit) ≡ now (rows .entry) ⌝ }
 {
@@ -109,7 +151,19 @@ fn try_start(
     }
     starts[op] = s as u16;
     reserve(file, op, first, s, interval, rows);
-    let f = choose(file, starts, rows, op + 1, n, interval, horizon, left);
+    let next = first + use_count(file, op);
+    let f = pick(
+        file,
+        links,
+        starts,
+        rows,
+        op + 1,
+        next,
+        n,
+        interval,
+        horizon,
+        left,
+    );
     release(file, op, first, s, interval, rows);
     f
 }
