@@ -3,7 +3,7 @@
 //
 //     library TURNS ROW..
 //
-//     search HORIZON FILE             mw_search on a loop that uses up the 1,000,000 probes
+//     search HORIZON FILE             mw_search on a loop that uses up the 1,000,000 probes; also against bench/one_by_one.rs
 //     bounds FILE                     mw_bounds
 //     session INTERVAL SPREAD FILE    mw_session with 20,000 calls, all starts below SPREAD
 //     open INTERVAL FILE              mw_session with no calls: what opening takes
@@ -11,6 +11,8 @@
 //     rustc --edition 2021 -C opt-level=3 -C codegen-units=1 -L target/staticlib bench/library.rs -o target/bench/library
 
 mod calls;
+#[allow(dead_code)] // not all of it is measured
+mod one_by_one;
 #[allow(dead_code)] // not all of it is measured
 #[path = "../bindings/plain/src/lib.rs"]
 mod plain;
@@ -29,15 +31,17 @@ use std::{env, fs, process};
 // How often a turn repeats a call that is short.
 const REPEATS: usize = 20;
 
-// What was measured: of each turn the microseconds for one call, of both sides; and what both left.
+// What was measured: for each side, of each turn, the microseconds for one call; and what all left.
 struct Measured {
-    rust: Vec<f64>,
-    proved: Vec<f64>,
+    times: Vec<Vec<f64>>,
     left: Memory,
 }
 
+// One side of a call.
+type Side<'a> = &'a dyn Fn(&mut Memory);
+
 // Microseconds for one call.
-fn timed(repeats: usize, m: &mut Memory, call: &impl Fn(&mut Memory)) -> f64 {
+fn timed(repeats: usize, m: &mut Memory, call: Side) -> f64 {
     let began = Instant::now();
     for _ in 0..repeats {
         call(black_box(&mut *m));
@@ -45,47 +49,37 @@ fn timed(repeats: usize, m: &mut Memory, call: &impl Fn(&mut Memory)) -> f64 {
     1e6 * began.elapsed().as_secs_f64() / repeats as f64
 }
 
-// Both sides in turn, now the one and now the other first; what they leave has to be the same. The first turn only
-// brings both into the caches, and is not counted.
-fn compare(
-    turns: usize,
-    repeats: usize,
-    calls: usize,
-    rust: impl Fn(&mut Memory),
-    proved: impl Fn(&mut Memory),
-) -> Result<Measured, String> {
+// The sides in turn, each time another one first; what they leave has to be the same. The first turn only brings all into
+// the caches, and is not counted.
+fn compare(turns: usize, repeats: usize, calls: usize, sides: &[Side]) -> Result<Measured, String> {
     let mut all = Measured {
-        rust: Vec::new(),
-        proved: Vec::new(),
+        times: vec![Vec::new(); sides.len()],
         left: Memory::new(calls),
     };
     for turn in 0..=turns {
-        all.left = Memory::new(calls);
-        let mut other = Memory::new(calls);
-        let (r, p);
-        if turn % 2 == 0 {
-            r = timed(repeats, &mut all.left, &rust);
-            p = timed(repeats, &mut other, &proved);
-        } else {
-            p = timed(repeats, &mut other, &proved);
-            r = timed(repeats, &mut all.left, &rust);
-        }
-        if all.left != other {
-            return Err("the library and plain Rust differ".to_string());
-        }
-        if turn > 0 {
-            all.rust.push(r);
-            all.proved.push(p);
+        for place in 0..sides.len() {
+            let side = (turn + place) % sides.len();
+            let mut left = Memory::new(calls);
+            let time = timed(repeats, &mut left, sides[side]);
+            if turn + place == 0 {
+                all.left = left;
+            } else if all.left != left {
+                return Err("the library and plain Rust differ".to_string());
+            }
+            if turn > 0 {
+                all.times[side].push(time);
+            }
         }
     }
     Ok(all)
 }
 
-// A row: what was called, how much work one call is, the times, and for a session what became of its calls.
+// A row: what was called, how much work one call is, the times, and for a session what became of its calls. The sides are
+// plain Rust and the library, and before them, where there are three, plain Rust that pays one by one.
 fn print(call: &str, work: usize, unit: &str, m: &Measured, calls: &[[String; 4]]) {
     println!(
-        "{{\"call\": {call:?}, \"work\": {work}, \"unit\": {unit:?}, \"rust\": {:?}, \"proved\": {:?}, \"calls\": {calls:?}}}",
-        m.rust, m.proved
+        "{{\"call\": {call:?}, \"work\": {work}, \"unit\": {unit:?}, \"times\": {:?}, \"calls\": {calls:?}}}",
+        m.times
     );
 }
 
@@ -100,8 +94,11 @@ fn search_row(turns: usize, horizon: usize, path: &str) -> Result<(), String> {
         turns,
         1,
         0,
-        |m| rust_search(black_box(&file), horizon, m),
-        |m| proved_search(black_box(&file), horizon, m),
+        &[
+            &|m| one_by_one_search(black_box(&file), horizon, m),
+            &|m| rust_search(black_box(&file), horizon, m),
+            &|m| proved_search(black_box(&file), horizon, m),
+        ],
     )?;
     let call = format!("search, horizon {horizon}, loop {name}");
     print(&call, BUDGET, "probes", &m, &[]);
@@ -114,8 +111,9 @@ fn bounds_row(turns: usize, path: &str) -> Result<(), String> {
         turns,
         REPEATS,
         0,
-        |m| rust_bounds(black_box(&file), m),
-        |m| proved_bounds(black_box(&file), m),
+        &[&|m| rust_bounds(black_box(&file), m), &|m| {
+            proved_bounds(black_box(&file), m)
+        }],
     )?;
     let [_, resource, recurrence, ..] = m.left.answer;
     let call = format!("bounds ({resource} and {recurrence}), loop {name}");
@@ -131,8 +129,10 @@ fn session_row(turns: usize, interval: usize, spread: usize, path: &str) -> Resu
         turns,
         1,
         CALLS,
-        |m| rust_session(black_box(&file), interval, &calls, m),
-        |m| proved_session(black_box(&file), interval, &calls, m),
+        &[
+            &|m| rust_session(black_box(&file), interval, &calls, m),
+            &|m| proved_session(black_box(&file), interval, &calls, m),
+        ],
     )?;
     let call = format!("session, interval {interval}, starts below {spread}, loop {name}");
     print(&call, CALLS, "calls", &m, &told(&calls, &m.left.replies));
@@ -145,8 +145,10 @@ fn open_row(turns: usize, interval: usize, path: &str) -> Result<(), String> {
         turns,
         REPEATS,
         0,
-        |m| rust_session(black_box(&file), interval, &[], m),
-        |m| proved_session(black_box(&file), interval, &[], m),
+        &[
+            &|m| rust_session(black_box(&file), interval, &[], m),
+            &|m| proved_session(black_box(&file), interval, &[], m),
+        ],
     )?;
     let call = format!("session without calls, interval {interval}, loop {name}");
     print(&call, 1, "opening", &m, &[]);

@@ -1,12 +1,14 @@
-// Both sides of a call: the library's C function, as the Rust crate declares it, and plain Rust that does the same. What a call
-// gives back and writes is in a Memory, so that the two can be compared whole.
+// The sides of a call: the library's C function, as the Rust crate declares it, and plain Rust that does the same; of a search
+// also plain Rust that pays for starts one by one. What a call gives back and writes is in a Memory, so that the sides can be
+// compared whole.
 //
 // What the header asks of a caller holds in each unsafe block: a pointer is that of a slice or an array, goes with its length
 // (eight numbers for an answer, 64 starts for a session), and what is written overlaps nothing.
 
+use crate::one_by_one;
 use crate::plain::bounds::bounds;
 use crate::plain::replay::replay;
-use crate::plain::search::{search, Request};
+use crate::plain::search::{search, Found, NotFound, Request};
 use crate::plain::session::Starts;
 use crate::plain::{Refusal, LONGEST};
 use crate::sys::{mw_bounds, mw_search, mw_session};
@@ -55,6 +57,32 @@ impl Memory {
         self.result = refusal.number;
         self.answer[0] = refusal.detail as u64;
     }
+
+    // What a search in Rust came to.
+    fn tell(&mut self, found: Result<Found, NotFound>) {
+        match found {
+            Ok(f) => self.accept(&[
+                f.interval,
+                f.bounds.resource,
+                f.bounds.recurrence,
+                f.stages,
+                f.probes,
+            ]),
+            Err(none) => {
+                self.refuse(none.refusal);
+                self.answer[5] = none.probes.unwrap_or(0) as u64;
+            }
+        }
+    }
+}
+
+// What every search is asked for.
+fn asked(horizon: usize) -> Request {
+    Request {
+        cap: CAP,
+        horizon,
+        budget: BUDGET,
+    }
 }
 
 pub fn rust_bounds(file: &[u8], m: &mut Memory) {
@@ -68,25 +96,14 @@ pub fn proved_bounds(file: &[u8], m: &mut Memory) {
     m.result = unsafe { mw_bounds(file.as_ptr(), file.len(), &mut m.answer) };
 }
 
+pub fn one_by_one_search(file: &[u8], horizon: usize, m: &mut Memory) {
+    let found = one_by_one::search(file, asked(horizon), &mut m.starts, &mut m.rows);
+    m.tell(found);
+}
+
 pub fn rust_search(file: &[u8], horizon: usize, m: &mut Memory) {
-    let asked = Request {
-        cap: CAP,
-        horizon,
-        budget: BUDGET,
-    };
-    match search(file, asked, &mut m.starts, &mut m.rows) {
-        Ok(f) => m.accept(&[
-            f.interval,
-            f.bounds.resource,
-            f.bounds.recurrence,
-            f.stages,
-            f.probes,
-        ]),
-        Err(none) => {
-            m.refuse(none.refusal);
-            m.answer[5] = none.probes.unwrap_or(0) as u64;
-        }
-    }
+    let found = search(file, asked(horizon), &mut m.starts, &mut m.rows);
+    m.tell(found);
 }
 
 pub fn proved_search(file: &[u8], horizon: usize, m: &mut Memory) {

@@ -1,7 +1,7 @@
 //! The search: the smallest interval that has a legal list of starts, the first such list, and the probes it takes.
 
 use super::bounds::{self, Bounds};
-use super::file::{read, Loop, OPERATIONS_MOST};
+use super::file::{read, Dependence, Loop, OPERATIONS_MOST};
 use super::places::stages;
 use super::{check, check_range, Refusal, LONGEST};
 use std::ops::Range;
@@ -68,10 +68,12 @@ pub fn of_loop(
     check(rows.len() >= LONGEST, 20, rows.len())?;
     let bounds = bounds::of_loop(code)?;
     rows[..LONGEST].fill(0);
+    let by_later = by_later(code);
     let mut left = request.budget;
     for interval in bounds.larger()..=request.cap {
         let mut attempt = Attempt {
             code,
+            by_later: &by_later,
             horizon: request.horizon,
             starts: [0; OPERATIONS_MOST],
             rows: &mut rows[..interval],
@@ -92,6 +94,15 @@ pub fn of_loop(
         }
     }
     ended(10, request.cap, request.budget - left)
+}
+
+/// For each operation the dependences with itself and with those before it.
+fn by_later(code: &Loop) -> Vec<Vec<Dependence>> {
+    let mut lists = vec![Vec::new(); code.operations.len()];
+    for d in &code.dependences {
+        lists[d.from.max(d.to)].push(*d);
+    }
+    lists
 }
 
 /// Refusals 10 and 11, with the probes made.
@@ -116,6 +127,7 @@ enum Tried {
 /// known, and they alone are in the table.
 struct Attempt<'a> {
     code: &'a Loop,
+    by_later: &'a [Vec<Dependence>],
     horizon: usize,
     starts: [u16; OPERATIONS_MOST],
     /// One row for each cycle of the interval.
@@ -123,34 +135,35 @@ struct Attempt<'a> {
 }
 
 impl Attempt<'_> {
-    /// Chooses the next operation, and tries its starts from 0 up to the horizon. Each is a probe, also where a dependence
-    /// excludes it.
+    /// Chooses the next operation, and tries its starts in the window at which it fits. Each start below the horizon is a
+    /// probe; those that a dependence or the table excludes are paid for at once, up to the next start that is tried or
+    /// the horizon.
     fn choose(&mut self, op: usize, mut left: usize) -> Tried {
-        if op == self.code.operations.len() {
+        let Some(operation) = self.code.operations.get(op) else {
             return Tried::Found(left);
-        }
-        let window = self.window(op);
-        for start in 0..self.horizon {
-            if left == 0 {
+        };
+        let mut window = self.window(op);
+        let mut paid = 0;
+        while let Some(start) = operation.next_free(window.clone(), self.rows) {
+            let Some(rest) = left.checked_sub(start + 1 - paid) else {
                 return Tried::Spent;
+            };
+            match self.place(op, start, rest) {
+                Tried::Nothing(rest) => left = rest,
+                ended => return ended,
             }
-            left -= 1;
-            if window.contains(&start) {
-                match self.try_start(op, start, left) {
-                    Tried::Nothing(rest) => left = rest,
-                    ended => return ended,
-                }
-            }
+            paid = start + 1;
+            window.start = paid;
         }
-        Tried::Nothing(left)
+        match left.checked_sub(self.horizon - paid) {
+            Some(rest) => Tried::Nothing(rest),
+            None => Tried::Spent,
+        }
     }
 
-    /// Places an operation at a start, where it fits, and goes on to the operations after it.
-    fn try_start(&mut self, op: usize, start: usize, left: usize) -> Tried {
+    /// Places an operation at a start at which it fits, and goes on to the operations after it.
+    fn place(&mut self, op: usize, start: usize, left: usize) -> Tried {
         let operation = &self.code.operations[op];
-        if !operation.fits(start, self.rows) {
-            return Tried::Nothing(left);
-        }
         self.starts[op] = start as u16;
         operation.reserve(start, self.rows);
         let tried = self.choose(op + 1, left);
@@ -161,15 +174,15 @@ impl Attempt<'_> {
     /// The starts of an operation at which its dependences with itself and with those before it hold.
     fn window(&self, op: usize) -> Range<usize> {
         let (mut first, mut end) = (0, self.horizon as i32);
-        for d in &self.code.dependences {
+        for d in &self.by_later[op] {
             let wait = d.wait(self.rows.len());
-            if d.from == op {
-                if d.to < op {
-                    end = end.min(i32::from(self.starts[d.to]) - wait + 1);
-                } else if d.to == op && wait > 0 {
+            if d.from == d.to {
+                if wait > 0 {
                     end = 0;
                 }
-            } else if d.to == op && d.from < op {
+            } else if d.from == op {
+                end = end.min(i32::from(self.starts[d.to]) - wait + 1);
+            } else {
                 first = first.max(i32::from(self.starts[d.from]) + wait);
             }
         }

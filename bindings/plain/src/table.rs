@@ -2,6 +2,7 @@
 //! operation covers the slot in that row.
 
 use super::file::{Operation, Use};
+use std::ops::Range;
 
 impl Use {
     /// The bit of the slot.
@@ -13,6 +14,23 @@ impl Use {
     fn rows(&self, start: usize, interval: usize) -> impl Iterator<Item = usize> {
         (start..start + usize::from(self.duration)).map(move |cycle| cycle % interval)
     }
+
+    /// How many starts from this one on the table excludes; 0 where the use meets no taken row. One that it meets in cycle k
+    /// it meets at the next k starts too, so the last such cycle is looked for. A use longer than the interval meets itself.
+    fn excluded(&self, start: usize, rows: &[u64]) -> usize {
+        let duration = usize::from(self.duration);
+        if duration > rows.len() {
+            return 1;
+        }
+        let mut row = (start + duration) % rows.len();
+        for starts in (1..=duration).rev() {
+            row = if row == 0 { rows.len() } else { row } - 1;
+            if rows[row] & self.bit() != 0 {
+                return starts;
+            }
+        }
+        0
+    }
 }
 
 impl Operation {
@@ -23,6 +41,19 @@ impl Operation {
                 && u.rows(start, rows.len())
                     .all(|row| rows[row] & u.bit() == 0)
         })
+    }
+
+    /// The first start of a range at which it conflicts with neither.
+    pub fn next_free(&self, starts: Range<usize>, rows: &[u64]) -> Option<usize> {
+        let mut start = starts.start;
+        while start < starts.end {
+            let mut excluded = self.uses.iter().map(|u| u.excluded(start, rows));
+            match excluded.find(|&starts| starts > 0) {
+                Some(starts) => start += starts,
+                None => return Some(start),
+            }
+        }
+        None
     }
 
     /// Enters the operation at a start.

@@ -2,4 +2,6 @@
 pub mod Words
 pub mod Runs
 pub mod Spans
+pub mod Links
+pub mod Skips
 pub mod Steps

@@ -3,7 +3,7 @@ use mathlib.Core.Path.{_≡_, refl, sym, ap, _∙_}
 use mathlib.Core.Bool.{Bool, true, false, not, _&&_, _||_, and-true, and-assoc, or-false, Bool·not-not}
 use mathlib.Core.List.{List}
 use mathlib.Core.Option.{none, some}
-use Prim.Native.Nat.{ℕ, _+_, _*_, _≤_, _<_}
+use Prim.Native.Nat.{ℕ, _+_, _-_, _*_, _≤_, _<_}
 use native.Mathlib.Nat.{zero-add}
 use native.Mathlib.Omega.{arith}
 use lib.Dec.{leb, ltb}
@@ -173,3 +173,19 @@ module _ (l : Loop) (ii : ℕ) (xs : List ℕ) (h : ℕ) where
       ∙ ap (λ (t : Bool). t && not (breaksAt l ii xs s k)) (w s)
       ∙ and-assoc (ltb s h) (allowed l ii xs k s) (not (breaksAt l ii xs s k))
       ∙ ap (λ (t : Bool). ltb s h && t) (sym (allowed-next k s))
+
+  module _ (k a b : ℕ) (w : WindowIs l ii xs h k a b) where
+    -- where it has no start, it is that from the horizon to the horizon
+    pub window-empty : b ≤ a → WindowIs l ii xs h k h h
+    window-empty e s =
+        same-true (inside h h s) (inside a b s)
+        (λ i. absurd (omega (arith, leb-true h s (and-left (leb h s) (ltb s h) i), ltb-true s h (and-right (leb h s) (ltb s h) i))))
+        (λ i. absurd (omega (arith, leb-true a s (and-left (leb a s) (ltb s b) i), ltb-true s b (and-right (leb a s) (ltb s b) i))))
+        ∙ w s
+
+    -- where it has one, it ends at or before the horizon
+    pub window-end : a < b → b ≤ h
+    window-end e =
+        let t = b - 1 in
+        let i : inside a b t ≡ true = and-both (leb a t) (ltb t b) (le-leb a t (omega arith)) (lt-ltb t b (omega arith)) in
+        omega (arith, ltb-true t h (and-left (ltb t h) (allowed l ii xs k t) (sym (w t) ∙ i)))

@@ -1,20 +1,27 @@
 // The search at one interval: two functions that call each other. `choose` takes the next operation in number order, works out its window and the number of its first
-// use once and goes through its starts; `try_start` tests one start against the table, reserves, lets `choose` go on with the next operation, and releases. A start is
-// paid for before it is looked at, so what is left of the budget falls with every turn. Internal: each function asks for an accepted file and rows that hold the
-// operations placed so far.
+// use once, and goes through the starts of the window that the rows leave free; `try_start` tests one start against the rows, reserves, lets `choose` go on with the next
+// operation, and releases. A start that the window or the rows exclude only costs its probe, and all those before the next start to try, or after the last, are paid for
+// at once. A start is paid for before it is tried, so what is left of the budget falls with every turn. Internal: each function asks for an accepted file and rows that
+// hold the operations placed so far.
+mod skip;
 mod window;
 
+use crate::skip::excluded;
+use crate::skip::next_free;
+use crate::window::link;
 use crate::window::window_of;
 use loop_access::first_use;
-use reservation::Place;
+use loop_access::use_count;
 use reservation::cells::release;
 use reservation::cells::reserve;
-use reservation::test::conflict;
 pub use window::earliest;
 ghost use mathlib.Core.Path.{_≡_};
 ghost use mathlib.Core.List.{[], _∷_, _++_};
 ghost use Prim.Native.Nat.{_<_};
 ghost use lib.ListN.{take};
+ghost use Rattle.model.specs.Loop.{firstUseOf};
+ghost use Rattle.model.specs.File.{loopOf};
+ghost use Rattle.descent.specs.Links.{Linked};
 ghost use Rattle.descent.specs.Descent.{Ready, MayTry, Done, below, branch};
 
 // What a part of the search comes to: every operation has a start, and so much is left of the budget; the budget is spent; there is no list, and so much is left.
@@ -24,7 +31,7 @@ pub enum Found {
     Nothing(usize),
 }
 
-// The starts of operation `op` and of those after it.
+// The starts of operation `op` and of those after it. What is the same for all of them is worked out here, once.
 pub fn choose(
     file: &[u8],
     starts: &mut [u16],
@@ -42,51 +49,90 @@ pub fn choose(
     if op == n {
         return Found::All(left);
     }
-    let w = window_of(file, op, starts, interval, horizon);
+    let links = link(file);
     let first = first_use(file, op);
-    let mut purse = left;
-    let mut s = 0;
-    while s < horizon {
-        if purse == 0 {
-            return Found::Spent;
-        }
-        purse = purse - 1;
-        if w.from <= s {
-            if s < w.to {
-                let f = try_start(
-                    file,
-                    starts,
-                    rows,
-                    op,
-                    first,
-                    n,
-                    interval,
-                    horizon,
-                    s,
-                    purse,
-                );
-                match f {
-                    Found::All(l) => {
-                        return Found::All(l);
-                    }
-                    Found::Spent => {
-                        return Found::Spent;
-                    }
-                    Found::Nothing(l) => {
-                        purse = l;
-                    }
-                }
-            }
-        }
-        s = s + 1;
-    }
-    Found::Nothing(purse)
+    pick(
+        file,
+        &links,
+        starts,
+        rows,
+        op,
+        first,
+        n,
+        interval,
+        horizon,
+        left,
+    )
 }
 
-// Operation `op` at s, which its window has, and the operations after it. The probe is paid for. The number of its first use, `first`, is worked out once for each
-// chosen operation, and so handed in.
+// The same, with the index of the dependences and the number of the operation's first use at hand.
+fn pick(
+    file: &[u8],
+    links: &[u16; 320],
+    starts: &mut [u16],
+    rows: &mut [u64],
+    op: usize,
+    first: usize,
+    n: usize,
+    interval: usize,
+    horizon: usize,
+    left: usize,
+) -> Found
+    requires { ⌜ Ready (now file) (now starts) (now rows) op n interval horizon × Linked (loopOf (now file)) (now links) × (first ≡ firstUseOf (loopOf (now file)) op) ⌝ }
+    ensures done { λ r. ⌜ Done (below (now (file .entry)) (now (starts .entry)) op n interval horizon left) n op (take op (now (starts .entry))) (now (starts .entry)) (now (starts .exit)) r ⌝ }
+    ensures same { λ r. ⌜ now (rows .exit) ≡ now (rows .entry) ⌝ }
+{
+    if op == n {
+        return Found::All(left);
+    }
+    let w = window_of(file, links, op, starts, interval, horizon);
+    let mut purse = left;
+    let mut paid = 0;
+    let mut s = next_free(file, op, first, w.from, w.to, interval, rows);
+    while s < w.to {
+        let passed = s - paid;
+        if purse <= passed {
+            return Found::Spent;
+        }
+        let f = try_start(
+            file,
+            links,
+            starts,
+            rows,
+            op,
+            first,
+            n,
+            interval,
+            horizon,
+            s,
+            purse - passed - 1,
+        );
+        match f {
+            Found::All(l) => {
+                return Found::All(l);
+            }
+            Found::Spent => {
+                return Found::Spent;
+            }
+            Found::Nothing(l) => {
+                purse = l;
+            }
+        }
+        paid = s + 1;
+        s = next_free(file, op, first, paid, w.to, interval, rows);
+    }
+    let above = horizon - paid;
+    if purse < above {
+        return Found::Spent;
+    }
+    Found::Nothing(purse - above)
+}
+
+// Operation `op` at s, which its window has, and the operations after it. The probe is paid for. The number of its first use, `first`, is handed in, and that of the next
+// operation is as many more as this one has uses.
 fn try_start(
     file: &[u8],
+    links: &[u16; 320],
     starts: &mut [u16],
     rows: &mut [u64],
     op: usize,
@@ -97,17 +143,28 @@ fn try_start(
     s: usize,
     left: usize,
 ) -> Found
-    requires { ⌜ MayTry (now file) (now starts) (now rows) op n interval horizon s first ⌝ }
+    requires { ⌜ MayTry (now file) (now starts) (now rows) op n interval horizon s first × Linked (loopOf (now file)) (now links) ⌝ }
     ensures done { λ r. ⌜ Done (branch (now (file .entry)) (now (starts .entry)) op n interval horizon s left) n op (take op (now (starts .entry)) ++ s ∷ []) (now (starts .entry)) (now (starts .exit)) r ⌝ }
     ensures same { λ r. ⌜ now (rows .exit) ≡ now (rows .entry) ⌝ }
 {
-    let place = conflict(file, op, first, s, interval, rows);
-    let Place::Free = place else {
+    if 0 < excluded(file, op, first, s, interval, rows) {
         return Found::Nothing(left);
-    };
+    }
     starts[op] = s as u16;
     reserve(file, op, first, s, interval, rows);
-    let f = choose(file, starts, rows, op + 1, n, interval, horizon, left);
+    let next = first + use_count(file, op);
+    let f = pick(
+        file,
+        links,
+        starts,
+        rows,
+        op + 1,
+        next,
+        n,
+        interval,
+        horizon,
+        left,
+    );
     release(file, op, first, s, interval, rows);
     f
 }

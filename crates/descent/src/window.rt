@@ -1,15 +1,17 @@
-// The window of an operation: the starts that its dependences with itself and with earlier operations allow. It is worked out once for each operation chosen, so that a
-// start outside it costs a comparison. Internal: each function asks for an accepted file.
+// The window of an operation: the starts that its dependences with itself and with earlier operations allow. It is worked out once for each operation chosen, so that the
+// starts outside it are paid for at once. Internal: each function asks for an accepted file.
 use loop_access::delay;
 use loop_access::dep_count;
 use loop_access::distance;
 use loop_access::source;
 use loop_access::target;
+ghost use mathlib.Core.Path.{_≡_};
 ghost use Prim.Native.Nat.{_<_, _≤_};
 ghost use lib.ListN.{length, take};
 ghost use Rattle.model.specs.Loop.{size};
 ghost use Rattle.model.specs.File.{loopOf, Accepted};
 ghost use Rattle.descent.specs.Span.{EarliestIs, TooLateIs, NarrowedIs, WindowIs, Early};
+ghost use Rattle.descent.specs.Links.{laterEnd, Linked};
 
 // The starts from `from` to `to` - 1.
 pub struct Window {
@@ -85,20 +87,64 @@ fn narrowed(file: &[u8], e: usize, op: usize, starts: &[u16], interval: usize, w
     w
 }
 
-// The window of an operation among the starts below the horizon.
-pub fn window_of(file: &[u8], op: usize, starts: &[u16], interval: usize, horizon: usize) -> Window
-    requires { ⌜ Accepted (now file) × (op < size (loopOf (now file))) × (op ≤ length (now starts)) × Early op (now starts) × (interval ≤ 4096) ⌝ }
-    ensures { λ r. ⌜ WindowIs (loopOf (now (file .entry))) interval (take op (now (starts .entry))) horizon (length (loopOf (now (file .entry)) .deps)) (r .from) (r .to) ⌝ }
+// The later of the two operations of dependence e. It is chosen last, so it is the one whose window the dependence narrows.
+fn later_end(file: &[u8], e: usize) -> usize
+    requires { ⌜ Accepted (now file) × (e < length (loopOf (now file) .deps)) ⌝ }
+    ensures { λ r. ⌜ r ≡ laterEnd (loopOf (now (file .entry))) e ⌝ }
+{
+    let from = source(file, e);
+    let to = target(file, e);
+    if from < to {
+        return to;
+    }
+    from
+}
+
+// The dependences by their later operation, so that the window of one is found without those of the others. Entry o is the first dependence whose later operation is o,
+// and entry 64 + e the next one after e with the same; where there is none, the number of all.
+pub fn link(file: &[u8]) -> [u16; 320]
+    requires { ⌜ Accepted (now file) ⌝ }
+    ensures { λ r. ⌜ Linked (loopOf (now (file .entry))) r ⌝ }
+{
+    let m = dep_count(file);
+    let mut links = [m as u16; 320];
+    let mut e = m;
+    while 0 < e {
+        e = e - 1;
+        let o = later_end(file, e);
+        links[64 + e] = links[o];
+        links[o] = e as u16;
+    }
+    links
+}
+
+// The window of an operation among the starts below the horizon, from the dependences whose later operation it is. One that has no start lies at the horizon.
+pub fn window_of(
+    file: &[u8],
+    links: &[u16; 320],
+    op: usize,
+    starts: &[u16],
+    interval: usize,
+    horizon: usize,
+) -> Window
+    requires { ⌜ Accepted (now file) × Linked (loopOf (now file)) (now links) × (op < size (loopOf (now file))) × (op ≤ length (now starts)) × Early op (now starts) × (interval ≤ 4096) ⌝ }
+    ensures { λ r. ⌜ WindowIs (loopOf (now (file .entry))) interval (take op (now (starts .entry))) horizon (length (loopOf (now (file .entry)) .deps)) (r .from) (r .to) × (r .from ≤ r .to) × (r .to ≤ horizon) ⌝ }
 {
     let m = dep_count(file);
     let mut w = Window {
         from: 0,
         to: horizon,
     };
-    let mut e = 0;
+    let mut e = links[op] as usize;
     while e < m {
         w = narrowed(file, e, op, starts, interval, w);
-        e = e + 1;
+        e = links[64 + e] as usize;
+    }
+    if w.to <= w.from {
+        return Window {
+            from: horizon,
+            to: horizon,
+        };
     }
     w
 }

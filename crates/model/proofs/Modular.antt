@@ -1,7 +1,7 @@
 -- Laws of rows that wrap round at the interval. Assumes nothing.
 use mathlib.Core.Path.{_≡_, sym, ap, _∙_}
-use Prim.Native.Nat.{ℕ, _+_, _-_, _%_, _≤_, _<_}
-use native.Mathlib.Nat.{mod-lt, mod-eq-of-lt, mod-add-mod, add-mod-mod, mod-eq-sub-mod, add-mod-right}
+use Prim.Native.Nat.{ℕ, _+_, _-_, _%_, _≤_, _<_, suc}
+use native.Mathlib.Nat.{mod-lt, mod-eq-of-lt, mod-add-mod, add-mod-mod, mod-eq-sub-mod, add-mod-right, mod-self}
 use native.Mathlib.Decide.{decLt}
 use native.Mathlib.Omega.{arith}
 
@@ -18,6 +18,16 @@ wrap-ne ii a e lo hi q = pick (decLt (a % ii + e) ii)
         let l : ii ≤ a % ii + e = omega arith in
         let m : a % ii + e - ii < ii = omega (arith, below) in
         omega (arith, below, mod-add-mod a ii e, mod-eq-sub-mod l ∙ mod-eq-of-lt m)
+
+-- the next row, where it is not past the last
+pub wrap-next : (ii a : ℕ) → suc (a % ii) < ii → (a + 1) % ii ≡ a % ii + 1
+wrap-next ii a h =
+    let l : a % ii + 1 < ii = omega arith in
+    sym (mod-add-mod a ii 1) ∙ mod-eq-of-lt l
+
+-- after the last row comes row 0
+pub wrap-zero : (ii a : ℕ) → a % ii + 1 ≡ ii → (a + 1) % ii ≡ 0
+wrap-zero ii a h = sym (mod-add-mod a ii 1) ∙ ap (λ (x : ℕ). x % ii) h ∙ mod-self ii
 
 -- the cycle, counted from x, in which the row comes
 abbrev pub cycleOf : ℕ → ℕ → ℕ → ℕ

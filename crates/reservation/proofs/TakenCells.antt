@@ -1,26 +1,46 @@
 -- The conflict test's two searches: over the uses in one cycle, and over the cycles. Assumes nothing.
 use mathlib.Core.Path.{_≡_, refl, ap, _∙_}
-use mathlib.Core.Bool.{false, and-false}
+use mathlib.Core.Bool.{true, false, and-false, or-true, or-false}
 use mathlib.Core.List.{List, [], _∷_}
 use mathlib.Core.Option.{Option, none, some}
 use Prim.Native.Nat.{ℕ, zero, suc, _+_, _≤_, _<_, max}
 use native.Mathlib.Decide.{decLt}
 use native.Mathlib.Omega.{arith}
-use lib.Dec.{leb}
+use lib.Dec.{eqb, leb}
 use lib.ListN.{length, getD, take}
-use borrow.Author.Tests.{le-ltb}
+use borrow.Author.Tests.{le-leb, lt-leb, lt-ltb, le-ltb, eq-eqb}
 use Rattle.model.specs.Lists.{first, maxOf}
 use Rattle.model.specs.Loop.{Use, noUse}
+use Rattle.model.specs.Table.{digitOf}
 use Rattle.reservation.specs.Place.{metBy, metIn, cyclesOf, cycleIs, rowAt, metAt, firstMet, placeOf, placeIs}
 use Rattle.reservation.specs.declared.Place.{Place}
 use Rattle.reservation.specs.declared.Place.the-variants.{Free, Taken}
 use Rattle.reservation.specs.declared.test.Cycle.{Cycle}
 use Rattle.reservation.specs.declared.test.Cycle.the-variants as cycle
-use Rattle.model.proofs.Firsts.{grid-not, grid-at}
+use Rattle.model.proofs.Lists.{at-any, first-none}
+use Rattle.model.proofs.Firsts.{grid-not, grid-at, none-grid}
 
--- a use that is over meets nothing
-pub use-over : (base ii row k : ℕ) (u : Use) → u .offset + u .duration ≤ k → metBy base ii row k u ≡ false
-use-over base ii row k u h = rw (le-ltb k (u .offset + u .duration) h, and-false (leb (u .offset) k))
+-- what a use meets in cycle k, which falls into the row given
+module _ (base ii row k : ℕ) (u : Use) where
+  -- before its first cycle nothing
+  pub use-early : k < u .offset → metBy base ii row k u ≡ false
+  use-early h = rw (lt-leb (u .offset) k h)
+
+  -- when it is over nothing
+  pub use-over : u .offset + u .duration ≤ k → metBy base ii row k u ≡ false
+  use-over h = rw (le-ltb k (u .offset + u .duration) h, and-false (leb (u .offset) k))
+
+  -- while it lasts, itself from the interval on
+  pub use-self : u .offset ≤ k → k < u .offset + u .duration → u .offset + ii ≤ k → metBy base ii row k u ≡ true
+  use-self p q h = rw (le-leb (u .offset) k p, lt-ltb k (u .offset + u .duration) q, le-leb (u .offset + ii) k h) (or-true (eqb (digitOf base row (u .slot)) 1))
+
+  -- and before that what the row's bit says
+  pub use-bit : u .offset ≤ k → k < u .offset + u .duration → k < u .offset + ii → metBy base ii row k u ≡ eqb (digitOf base row (u .slot)) 1
+  use-bit p q h = rw (le-leb (u .offset) k p, lt-ltb k (u .offset + u .duration) q, lt-leb (u .offset + ii) k h) (or-false _)
+
+  -- the bit alone is enough
+  pub use-met : u .offset ≤ k → k < u .offset + u .duration → digitOf base row (u .slot) ≡ 1 → metBy base ii row k u ≡ true
+  use-met p q e = rw (le-leb (u .offset) k p, lt-ltb k (u .offset + u .duration) q, eq-eqb (digitOf base row (u .slot)) 1 e)
 
 -- and so nothing is found in a cycle past those that the uses cover
 cycles-over : (base ii row k : ℕ) (us : List Use) → cyclesOf us ≤ k → metIn base ii row k us ≡ none
@@ -49,6 +69,16 @@ cycle-free r n m none e q = (refl, cc)
 cycle-free r n m (some u) e q = let z : _≡_ {A = ℕ} 0 1 = cc in absurd (omega arith)
 
 module _ (base ii : ℕ) (rows : List ℕ) (s : ℕ) (us : List Use) where
+  -- nothing is met, said of each cycle and each use
+  pub met-each : firstMet base ii rows s us ≡ none → (k j : ℕ) → k < 16 → j < length us → metAt base ii rows s k (getD us j noUse) ≡ false
+  unfolding firstMet
+  met-each e = none-grid (metAt base ii rows s) us noUse 16 e
+
+  -- and the other way round
+  pub each-met : ((k j : ℕ) → k < 16 → j < length us → metAt base ii rows s k (getD us j noUse) ≡ false) → firstMet base ii rows s us ≡ none
+  unfolding firstMet
+  each-met h = grid-not (metAt base ii rows s) us 16 (λ k l. first-none (metAt base ii rows s k) us (at-any (metAt base ii rows s k) us noUse (λ j m. h k j l m)))
+
   -- nothing in those below k, and the uses cover no others
   pub place-free : (k : ℕ) → ((j : ℕ) → j < k → metIn base ii (rowAt ii rows s j) j us ≡ none) → cyclesOf us ≤ k → placeIs (firstMet base ii rows s us) ≡ none
   unfolding metIn firstMet

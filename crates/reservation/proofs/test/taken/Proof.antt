@@ -1,33 +1,19 @@
 -- `test::taken` meets its contract: the use is in range, since the file is accepted. Assumes nothing.
-use mathlib.Core.Path.{_≡_, sym, ap, _∙_}
-use mathlib.Core.Bool.{true, false, or-true, or-false}
+use mathlib.Core.Path.{sym, ap, _∙_}
 use Prim.Native.Nat.{ℕ, _+_, _-_, _/_, _^_, _≤_, _<_}
 use native.Mathlib.Omega.{arith}
 use lib.Bits.{and-mask}
 use lib.Dec.{eqb}
 use lib.ListN.{getD}
 use borrow.Author.Needs.{needs}
-use borrow.Author.Tests.{le-leb, lt-leb, lt-ltb}
 use Rattle.model.specs.Loop.{Use, UseOk, noUse, allUses}
 use Rattle.model.specs.File.{loopOf}
 use Rattle.model.specs.Table.{rowBase, digitOf}
 use Rattle.model.proofs.File.{accepted-ok}
-use Rattle.reservation.specs.Place.{metBy}
 use Rattle.model.proofs.Loop.{all-ok}
-use Rattle.reservation.proofs.TakenCells.{use-over}
+use Rattle.reservation.proofs.TakenCells.{use-early, use-over, use-self, use-bit}
 use Rattle.reservation.proofs.test.taken.Statement.{statement}
 use Rattle.reservation.proofs.test.taken.Tie as tie
-
--- the ways out, beside that of a use that is over (`use-over`): the use does not cover the cycle yet; it meets itself; or the row's bit says it
-module _ (ii row k : ℕ) (u : Use) where
-  early : k < u .offset → metBy rowBase ii row k u ≡ false
-  early h = rw (lt-leb (u .offset) k h)
-
-  self : u .offset ≤ k → k < u .offset + u .duration → u .offset + ii ≤ k → metBy rowBase ii row k u ≡ true
-  self p q h = rw (le-leb (u .offset) k p, lt-ltb k (u .offset + u .duration) q, le-leb (u .offset + ii) k h) (or-true (eqb (digitOf rowBase row (u .slot)) 1))
-
-  bit : u .offset ≤ k → k < u .offset + u .duration → k < u .offset + ii → metBy rowBase ii row k u ≡ eqb (digitOf rowBase row (u .slot)) 1
-  bit p q h = rw (le-leb (u .offset) k p, lt-ltb k (u .offset + u .duration) q, lt-leb (u .offset + ii) k h) (or-false _)
 
 abbrev use-of : tie.Start → Use
 use-of s = getD (allUses (loopOf (s .args .file .now))) (s .args .u) noUse
@@ -44,7 +30,7 @@ offset-requires c κs = search needs
 returns : tie.Need-returns
 returns c =
     let s = start (c .before) in
-    sym (early (s .args .interval) (s .args .row) (s .args .k) (use-of s) (omega (arith, c .before .offset .ensures)))
+    sym (use-early rowBase (s .args .interval) (s .args .row) (s .args .k) (use-of s) (omega (arith, c .before .offset .ensures)))
 
 duration-requires : tie.Need-duration-requires
 duration-requires c κs = search needs
@@ -73,7 +59,7 @@ returns-3 c =
     let b = c .before in
     let s = turn b in
     let h = covered b in
-    sym (self (s .args .interval) (s .args .row) (s .args .k) (use-of s) (h .0) (h .1) (omega (arith, b .before .before .before .offset .ensures)))
+    sym (use-self rowBase (s .args .interval) (s .args .row) (s .args .k) (use-of s) (h .0) (h .1) (omega (arith, b .before .before .before .offset .ensures)))
 
 slot-requires : tie.Need-slot-requires
 slot-requires c κs = search needs
@@ -93,7 +79,7 @@ returns-4 c =
     let h = covered (c .before .before) in
     ap (λ (x : ℕ). eqb x 1) (and-mask (s .args .row / 2 ^ (c .slot .result - 1)) 1)
     ∙ ap (λ (x : ℕ). eqb (digitOf rowBase (s .args .row) x) 1) (c .slot .ensures)
-    ∙ sym (bit (s .args .interval) (s .args .row) (s .args .k) (use-of s) (h .0) (h .1) (omega (arith, far c .offset .ensures)))
+    ∙ sym (use-bit rowBase (s .args .interval) (s .args .row) (s .args .k) (use-of s) (h .0) (h .1) (omega (arith, far c .offset .ensures)))
 
 pub taken-spec : {M : Type 1} → statement M
 taken-spec =
