@@ -136,6 +136,7 @@ pub record New (u : Setup) (st : State) (o t : ℕ) : Type 0 where
   pub soon : t < u .horizon
 
 module _ (u : Setup) (st : State) (o t : ℕ) where
+  -- what the first checks of placing and forcing tell
   pub new-passed : (rest : List Check) → firstRefusal (absent u o ∷ taken st o ∷ late u o t ∷ rest) ≡ none → New u st o t
   new-passed rest e = record {
     inside = leb-false _ _ (passes-head _ _ e);
@@ -197,6 +198,7 @@ module _ (u : Setup) (ok : LoopOk (u .loop)) (pos : 1 ≤ u .ii) where
     saved = λ i l. let m = length-take k (st .checkpoints) in rw (getD-take k (st .checkpoints) i [] (omega arith)) (h .saved i (omega arith));
   }
 
+  -- what a call does where it is not refused
   good-effect : (c : Call) (st : State) → firstRefusal (checks u c st) ≡ none → GoodState u st → GoodState u (effect u c st .0)
   unfolding inTheWay
   good-effect (place o t) st e h =
