@@ -2,8 +2,8 @@
 use native.Mathlib.Omega.{arith}
 use Prim.Native.Nat.{_-_}
 use lib.ListN.{length}
-use Rattle.schedule.proofs.operations.Statement.{statement}
-use Rattle.schedule.proofs.operations.Tie as tie
+use Rattle.listing.proofs.operations.Statement.{statement}
+use Rattle.listing.proofs.operations.Tie as tie
 
 abbrev Inv-loop : tie.InvT-loop
 Inv-loop interval starts op₀ op = Unit
