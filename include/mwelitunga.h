@@ -7,14 +7,14 @@
  * - Any bytes, numbers and starts may be passed: what is out of range is refused, or has the result that the comment says.
  * - A list is a pointer and the number of elements behind it. No pointer may be null, even where the number is 0:
  *   pass the address of any object of that type.
- * - What is written (answer; starts and rows of mw_search; rows, replies and starts of mw_session) may not overlap
+ * - What is written (answer; starts and rows of mw_search and mw_plan; rows, replies and starts of mw_session) may not overlap
  *   anything else that is passed to the same call. Nothing is kept after the call, and there is no hidden state.
  *
- * For mw_read, mw_bounds, mw_verify, mw_search and mw_session:
+ * For mw_read, mw_bounds, mw_verify, mw_search, mw_plan and mw_session:
  * - The result is 0, or the number of the refusal, MW_REFUSED_...; the first check that fails gives it.
  * - All eight numbers of `answer` are written each time, whatever they were. Where the result is 0, answer[0] is 0,
  *   and the function's own comment names what follows. Where it is a refusal, answer[0] is its detail. All others are 0,
- *   but for the probes that mw_search tells of two refusals.
+ *   but for the probes that mw_search and mw_plan tell of two refusals.
  */
 #ifndef MWELITUNGA_H
 #define MWELITUNGA_H
@@ -33,7 +33,7 @@ extern "C" {
 #define MW_FILE_MOST 1690
 #define MW_OPERATIONS_MOST 64
 
-/* The rows that mw_search asks for. */
+/* The rows that mw_search and mw_plan ask for. */
 #define MW_SEARCH_ROWS 4096
 
 /* The refusals, each with its detail. 12, 13, 14, 16, 17, 18 and 19 are the answers of single calls of a session; so is 15 there. */
@@ -113,6 +113,24 @@ size_t mw_verify(
  * refusal all of it is as it was. The first MW_SEARCH_ROWS rows are 0 where the result is 0, 10 or 11; later rows, and all rows after
  * another refusal, are as they were. */
 size_t mw_search(
+    const uint8_t *file, size_t file_length, size_t cap, size_t horizon, size_t budget, uint16_t *starts,
+    size_t starts_length, uint64_t *rows, size_t rows_length, uint64_t answer[8]);
+
+/* The plan: a legal list of starts below the horizon at an interval up to the cap, and whether no smaller interval has one. First a list is
+ * looked for without a search, by iterative modulo scheduling. Where that is at the larger of the two bounds, no search is made; where it
+ * is not, mw_search's own search goes through the intervals below it, or up to the cap where there is no such list.
+ *
+ * It is never worse than mw_search with the same numbers: where that finds a schedule, the plan has the same interval and is said to be
+ * smallest. The starts may be other ones. Where mw_search runs out of probes, there may still be a plan.
+ *
+ * cap, horizon, budget, starts, rows: as those of mw_search. The budget is that of the search, where one is made.
+ *
+ * answer[1]: the interval. answer[2], [3]: the resource and the recurrence bound. answer[4]: the number of stages.
+ * answer[5]: 1 where no smaller interval has a legal list of starts below the horizon; 0 where that is not known.
+ * Refusals: 1 to 6, 7, 20, 8, 9, 10, 11. Of 10 and 11, answer[5] is the probes made; they are those of mw_search.
+ *
+ * What it leaves: as mw_search does. */
+size_t mw_plan(
     const uint8_t *file, size_t file_length, size_t cap, size_t horizon, size_t budget, uint16_t *starts,
     size_t starts_length, uint64_t *rows, size_t rows_length, uint64_t answer[8]);
 

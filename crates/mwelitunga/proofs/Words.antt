@@ -9,9 +9,11 @@ use Rattle.lower_bounds.specs.declared.LowerBounds.{LowerBounds}
 use Rattle.lower_bounds.specs.Answer.{boundsOf}
 use Rattle.search.specs.declared.Searched.{Searched}
 use Rattle.search.specs.Answer.{answerOf, Searches}
+use Rattle.planner.specs.declared.Planned.{Planned}
+use Rattle.planner.specs.Answer.{planOf, Plans}
 use Rattle.replay.specs.Words.{written, numberOf, wordsOf, Gives}
 use Rattle.refusals.specs.declared.Checked.{Checked}
-use Rattle.mwelitunga.specs.Words.{checkNumber, checkDetail, RefusalGiven, lowerWords, BoundsGiven, outcomeNumber, outcomeWords, SearchGiven}
+use Rattle.mwelitunga.specs.Words.{checkNumber, checkDetail, RefusalGiven, lowerWords, BoundsGiven, outcomeNumber, outcomeWords, SearchGiven, planNumber, planWords, PlanGiven}
 
 -- x says the answer a, and x is y: what is returned and written for y is given of a
 pub told : {X A : Type 0} (says : X → Answer A) {x y : X} {a : Answer A} {tell : A → List ℕ} {r : ℕ} {before after : List ℕ} → says x ≡ a → x ≡ y → r ≡ numberOf (says y)
@@ -39,6 +41,21 @@ search-told {f = f} {before = before} {list′ = list′} {x = x} s e n w =
       is = s .says;
       number = n ∙ ap outcomeNumber z;
       words = w ∙ ap (λ a. written 0 (outcomeWords a) before) z;
+      list-is = s .list-is;
+      rows-are = s .rows-are;
+    }
+
+-- and of the planner
+pub plan-told : {f : List ℕ} {cap horizon budget : ℕ} {list rows before list′ rows′ after : List ℕ} {x y : Planned} {r : ℕ} → Plans f cap horizon budget list rows x list′ rows′ → x ≡ y
+    → r ≡ planNumber (planOf (loopOf f) list′ y) → after ≡ written 0 (planWords (planOf (loopOf f) list′ y)) before
+    → PlanGiven f cap horizon budget list rows before r list′ rows′ after
+plan-told {f = f} {before = before} {list′ = list′} {x = x} s e n w =
+    let z = sym (ap (planOf (loopOf f) list′) e) in
+    record {
+      answer = planOf (loopOf f) list′ x;
+      is = s .says;
+      number = n ∙ ap planNumber z;
+      words = w ∙ ap (λ a. written 0 (planWords a) before) z;
       list-is = s .list-is;
       rows-are = s .rows-are;
     }

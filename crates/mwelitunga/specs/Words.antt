@@ -1,5 +1,6 @@
--- The answers of reader, bounds, verifier and search as numbers. Assumes nothing.
+-- The answers of reader, bounds, verifier, search and planner as numbers. Assumes nothing.
 use mathlib.Core.Path.{_≡_}
+use mathlib.Core.Bool.{Bool, cond}
 use mathlib.Core.List.{List, [], _∷_}
 use Prim.Native.Nat.{ℕ}
 use lib.ListN.{length}
@@ -8,6 +9,7 @@ use Rattle.model.specs.Bounds.{Lower, BoundsIs}
 use Rattle.model.specs.Search.{Outcome, found, ended, SearchIs, listAfter, rowsAfter}
 use Rattle.model.specs.Verifier.{Verdict, isLegal, breach, clash}
 use Rattle.loop_file.specs.Read.{Counts}
+use Rattle.planner.specs.Answer.{PlanEnd, scheduled, unscheduled, PlansIs, planList, planRows}
 use Rattle.refusals.specs.declared.Checked.{Checked}
 use Rattle.refusals.specs.declared.Checked.the-variants as checked
 use Rattle.replay.specs.Words.{written, Gives}
@@ -69,3 +71,30 @@ pub record SearchGiven (f : List ℕ) (cap horizon budget : ℕ) (list rows befo
   pub words : after ≡ written 0 (outcomeWords answer) before
   pub list-is : list′ ≡ listAfter answer list
   pub rows-are : rows′ ≡ rowsAfter answer rows
+
+-- ---- the plan
+
+-- a yes or no as a number
+abbrev pub flag : Bool → ℕ
+flag b = cond b 1 0
+
+-- what is returned
+abbrev pub planNumber : Answer PlanEnd → ℕ
+planNumber (answered (scheduled p)) = 0
+planNumber (answered (unscheduled x count)) = x .number
+planNumber (refused x) = x .number
+
+-- the eight numbers: the probes of 10 and 11 stand where the search has its own
+abbrev pub planWords : Answer PlanEnd → List ℕ
+planWords (answered (scheduled p)) = 0 ∷ p .ii ∷ p .bounds .resource ∷ p .bounds .recurrence ∷ p .stages ∷ flag (p .smallest) ∷ 0 ∷ 0 ∷ []
+planWords (answered (unscheduled x count)) = x .detail ∷ 0 ∷ 0 ∷ 0 ∷ 0 ∷ count ∷ 0 ∷ 0 ∷ []
+planWords (refused x) = x .detail ∷ 0 ∷ 0 ∷ 0 ∷ 0 ∷ 0 ∷ 0 ∷ 0 ∷ []
+
+-- the plan for a file and a request: the answer is one that the planner may give, and list, table and answer then hold what belongs to it
+pub record PlanGiven (f : List ℕ) (cap horizon budget : ℕ) (list rows before : List ℕ) (r : ℕ) (list′ rows′ after : List ℕ) : Type 0 where
+  pub answer : Answer PlanEnd
+  pub is : PlansIs f (record { cap = cap; horizon = horizon; budget = budget }) (length list) (length rows) answer
+  pub number : r ≡ planNumber answer
+  pub words : after ≡ written 0 (planWords answer) before
+  pub list-is : list′ ≡ planList answer list
+  pub rows-are : rows′ ≡ planRows answer rows

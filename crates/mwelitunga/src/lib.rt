@@ -2,6 +2,7 @@
 // an answer returns 0, or the number of the refusal, and writes all eight: first the refusal's detail, 0 where there is none, then what was found, then zeros. None asks for anything.
 use bounds::LowerBounds;
 use loop_file::Reading;
+use planner::Planned;
 use refusals::Checked;
 use search::Searched;
 use verifier::Verdict;
@@ -12,7 +13,7 @@ ghost use Rattle.model.specs.Search as model;
 ghost use Rattle.model.specs.Verifier.{verifyFile};
 ghost use Rattle.loop_file.specs.Read.{counted};
 ghost use Rattle.replay.specs.Words.{written, Gives};
-ghost use Rattle.mwelitunga.specs.Words.{RefusalGiven, countWords, verdictWords, BoundsGiven, SearchGiven};
+ghost use Rattle.mwelitunga.specs.Words.{RefusalGiven, countWords, verdictWords, flag, BoundsGiven, SearchGiven, PlanGiven};
 ghost use Rattle.replay.specs.Replay.{Replayed};
 
 // The eight numbers of an answer, the last two 0.
@@ -144,6 +145,54 @@ pub extern "C" fn mw_search(
             number
         }
         Searched::Refused(number, detail) => {
+            write_answer(answer, detail, 0, 0, 0, 0, 0);
+            number
+        }
+    }
+}
+
+// A yes or no as a number: 1 or 0.
+fn as_number(b: bool) -> usize
+    ensures { λ r. ⌜ r ≡ flag b ⌝ }
+{
+    if b {
+        return 1;
+    }
+    0
+}
+
+// The plan: interval, resource bound, recurrence bound, stages, and 1 where no smaller interval has a schedule, else 0; the starts in the list. Refusals 10 and 11 tell the probes, where those of the search stand.
+#[no_mangle]
+pub extern "C" fn mw_plan(
+    file: &[u8],
+    cap: usize,
+    horizon: usize,
+    budget: usize,
+    starts: &mut [u16],
+    rows: &mut [u64],
+    answer: &mut [u64; 8],
+) -> usize
+    ensures { λ r. ⌜ PlanGiven (now (file .entry)) cap horizon budget (now (starts .entry)) (now (rows .entry)) (now (answer .entry)) r (now (starts .exit)) (now (rows .exit)) (now (answer .exit)) ⌝ }
+{
+    let planned = planner::plan(file, cap, horizon, budget, starts, rows);
+    match planned {
+        Planned::Found(p) => {
+            write_answer(
+                answer,
+                0,
+                p.interval,
+                p.resource,
+                p.recurrence,
+                p.stages,
+                as_number(p.smallest),
+            );
+            0
+        }
+        Planned::Ended(number, detail, count) => {
+            write_answer(answer, detail, 0, 0, 0, 0, count);
+            number
+        }
+        Planned::Refused(number, detail) => {
             write_answer(answer, detail, 0, 0, 0, 0, 0);
             number
         }
