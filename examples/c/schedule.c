@@ -1,6 +1,7 @@
 /* Prints the schedule of a loop file, or the refusal, by the C functions of the library.
  *
- *     schedule FILE
+ *     schedule FILE           the schedule that mw_search finds
+ *     schedule plan FILE      the plan of mw_plan, with `smallest` or `legal` in place of the probes
  *
  * The status is 0 where the file was read, schedule or refusal, and 1 where it was not. */
 #include <errno.h>
@@ -34,28 +35,36 @@ static void list_operations(size_t interval, size_t n) {
 }
 
 int main(int argc, char **argv) {
-    if (argc != 2) {
-        fprintf(stderr, "usage: schedule FILE\n");
+    int planned = argc == 3 && strcmp(argv[1], "plan") == 0;
+    if (argc != 2 && !planned) {
+        fprintf(stderr, "usage: schedule [plan] FILE\n");
         return 1;
     }
-    FILE *from = fopen(argv[1], "rb");
+    const char *name = argv[argc - 1];
+    FILE *from = fopen(name, "rb");
     if (from == NULL) {
-        return not_read(argv[1]);
+        return not_read(name);
     }
     size_t length = fread(file, 1, sizeof file, from);
     if (ferror(from)) {
-        return not_read(argv[1]);
+        return not_read(name);
     }
     fclose(from);
 
     uint64_t found[8];
-    size_t refusal = mw_search(file, length, CAP, HORIZON, BUDGET, starts, MW_OPERATIONS_MOST, rows, MW_SEARCH_ROWS, found);
+    size_t refusal = (planned ? mw_plan : mw_search)(file, length, CAP, HORIZON, BUDGET, starts, MW_OPERATIONS_MOST, rows,
+                                                     MW_SEARCH_ROWS, found);
     if (refusal != 0) {
         printf("refused %zu at %" PRIu64 "\n", refusal, found[0]);
         return 0;
     }
-    printf("interval %" PRIu64 " resource %" PRIu64 " recurrence %" PRIu64 " stages %" PRIu64 " probes %" PRIu64 "\n",
-           found[1], found[2], found[3], found[4], found[5]);
+    printf("interval %" PRIu64 " resource %" PRIu64 " recurrence %" PRIu64 " stages %" PRIu64, found[1], found[2],
+           found[3], found[4]);
+    if (planned) {
+        printf(found[5] == 1 ? " smallest\n" : " legal\n");
+    } else {
+        printf(" probes %" PRIu64 "\n", found[5]);
+    }
 
     /* How many operations there are: the file is accepted, so this is not refused. */
     uint64_t counts[8];

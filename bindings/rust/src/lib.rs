@@ -10,6 +10,7 @@
 //! | [`read`] | how many operations, uses and dependences a file has |
 //! | [`bounds`] | two lower bounds of the interval |
 //! | [`search`], [`search_in`] | the smallest interval and its first list of starts |
+//! | [`plan`] | a legal list of starts, found without a search where that is quick, and whether its interval is the smallest |
 //! | [`verify`] | the verdict on any proposed list of starts |
 //! | [`stage`], [`cycle`], [`order`] | where in the schedule an operation is |
 //! | [`replay`] | a session, in which operations are placed, forced, removed and taken back |
@@ -45,6 +46,7 @@
 mod bounds;
 mod file;
 mod places;
+mod plan;
 mod refusal;
 mod search;
 mod session;
@@ -54,6 +56,7 @@ mod verifier;
 pub use bounds::{bounds, Bounds};
 pub use file::{read, Counts, FILE_MOST, OPERATIONS_MOST};
 pub use places::{cycle, order, stage};
+pub use plan::{plan, Plan};
 pub use refusal::{Kind, Refusal};
 pub use search::{search, search_in, Found, Request, Schedule, SearchError, SEARCH_ROWS};
 pub use session::{replay, Call, Replay, Reply};

@@ -1,5 +1,7 @@
 //! Where in the schedule a start is: stage, cycle and order.
 
+use std::fmt;
+
 use crate::sys;
 
 /// The stage of a start: how many whole intervals are over before it. 0 where the interval is 0.
@@ -36,4 +38,22 @@ pub fn cycle(interval: usize, start: usize) -> usize {
 pub fn order(interval: usize, starts: &[u16], op: usize) -> usize {
     // SAFETY: the slice is valid for its own length, and every number may be passed.
     unsafe { sys::mw_order(interval, starts.as_ptr(), starts.len(), op) }
+}
+
+/// Writes a line for each operation, each after the end of the line before it.
+pub(crate) fn list_operations(
+    f: &mut fmt::Formatter<'_>,
+    interval: usize,
+    starts: &[u16],
+) -> fmt::Result {
+    for (op, &start) in starts.iter().enumerate() {
+        write!(
+            f,
+            "\nop {op} start {start} stage {} cycle {} order {}",
+            stage(interval, start.into()),
+            cycle(interval, start.into()),
+            order(interval, starts, op)
+        )?;
+    }
+    Ok(())
 }

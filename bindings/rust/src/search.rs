@@ -3,14 +3,14 @@
 use std::error::Error;
 use std::fmt;
 
-use crate::places::{cycle, order, stage};
+use crate::places::list_operations;
 use crate::sys;
 use crate::{read, Bounds, Kind, Refusal, OPERATIONS_MOST};
 
-/// How many rows [`search_in`] asks for.
+/// How many rows [`search_in`] and [`sys::mw_plan`] ask for.
 pub const SEARCH_ROWS: usize = 4096;
 
-/// What a search may do.
+/// What a search or a plan may do.
 #[derive(Clone, Copy, Debug, PartialEq, Eq, Hash)]
 pub struct Request {
     /// The largest interval that is tried, 1 to 4,096.
@@ -69,20 +69,11 @@ impl fmt::Display for Schedule {
             "interval {} resource {} recurrence {} stages {} probes {}",
             self.interval, self.bounds.resource, self.bounds.recurrence, self.stages, self.probes
         )?;
-        for (op, &start) in self.starts.iter().enumerate() {
-            write!(
-                f,
-                "\nop {op} start {start} stage {} cycle {} order {}",
-                stage(self.interval, start.into()),
-                cycle(self.interval, start.into()),
-                order(self.interval, &self.starts, op)
-            )?;
-        }
-        Ok(())
+        list_operations(f, self.interval, &self.starts)
     }
 }
 
-/// Why a search has found nothing.
+/// Why a search or a plan has found nothing.
 #[derive(Clone, Copy, Debug, PartialEq, Eq, Hash)]
 pub struct SearchError {
     /// The refusal.
@@ -211,7 +202,7 @@ pub fn search_in(
 }
 
 /// The error of a refusal: only two refusals tell of probes.
-fn search_error(refusal: Refusal, probes: usize) -> SearchError {
+pub(crate) fn search_error(refusal: Refusal, probes: usize) -> SearchError {
     let searched = matches!(refusal.kind(), Some(Kind::NoSchedule | Kind::Budget));
     SearchError {
         refusal,

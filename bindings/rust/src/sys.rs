@@ -19,7 +19,8 @@ const _: () = assert!(usize::BITS == u64::BITS);
 /// What every function but the last three writes: all eight numbers, each time.
 ///
 /// Where the function returns 0 the first number is 0, and the function says what follows. Where it returns the number
-/// of a refusal, the first is its detail, and the others are 0 but for the probes of [`mw_search`].
+/// of a refusal, the first is its detail, and the others are 0 but for the probes of [`mw_search`] and
+/// [`mw_plan`].
 pub type Answer = [u64; 8];
 
 /// The room for starts that [`mw_session`] writes: all of it, each time it returns 0.
@@ -58,6 +59,24 @@ extern "C" {
     /// Refusals: 1 to 6, 7, 20 for the starts and then for the rows, 8, 9, then 10 or 11. The starts are written
     /// where the result is 0, one for each operation. The first 4,096 rows are cleared where it is 0, 10 or 11.
     pub fn mw_search(
+        file: *const u8,
+        file_length: usize,
+        cap: usize,
+        horizon: usize,
+        budget: usize,
+        starts: *mut u16,
+        starts_length: usize,
+        rows: *mut u64,
+        rows_length: usize,
+        answer: *mut Answer,
+    ) -> usize;
+
+    /// The plan. `answer[1]`: the interval. `answer[2]`, `[3]`: the resource and the recurrence bound. `answer[4]`: the
+    /// number of stages. `answer[5]`: 1 where no smaller interval has a legal list of starts, 0 where that is not known;
+    /// for refusals 10 and 11, the probes made.
+    ///
+    /// Refusals, starts and rows: as those of [`mw_search`].
+    pub fn mw_plan(
         file: *const u8,
         file_length: usize,
         cap: usize,

@@ -119,7 +119,7 @@ fn of_sys() -> Functions {
 #[test]
 fn functions_have_the_types_of_the_header() {
     let header = of_header();
-    assert_eq!(header.len(), 8, "{header:?}");
+    assert_eq!(header.len(), 9, "{header:?}");
     assert_eq!(header, of_sys());
 }
 

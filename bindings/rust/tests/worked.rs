@@ -1,7 +1,8 @@
 //! The worked examples of the rules, by number, and the listings of the example files, through the safe functions.
 
 use mwelitunga::{
-    bounds, read, replay, search, verify, Bounds, Call, Counts, Refusal, Reply, Request, Verdict,
+    bounds, plan, read, replay, search, verify, Bounds, Call, Counts, Refusal, Reply, Request,
+    Verdict,
 };
 use plain::file::{Dependence, Loop, Operation, Use};
 use plain::writer::write;
@@ -251,6 +252,52 @@ fn case_13_the_largest_recurrence_bound() {
         .map(|op| (op, (op + 1) % 64, 64, i32::from(op == 63)))
         .collect();
     assert_eq!(recurrence(&only_dependences(64, &ring)), 4096);
+}
+
+/// Interval and starts of a plan, whose starts are legal, and whether it is said to be smallest.
+fn planned(file: &[u8], request: Request) -> (usize, Vec<u16>, bool) {
+    let plan = plan(file, request).unwrap();
+    let verdict = verify(file, plan.interval, &plan.starts);
+    assert_eq!(verdict, Ok(Verdict::Legal));
+    (plan.interval, plan.starts, plan.smallest)
+}
+
+#[test]
+fn plans_at_the_bound_need_no_search() {
+    let one_probe = Request {
+        budget: 1,
+        ..Request::default()
+    };
+    assert_eq!(planned(&loop_a(), one_probe), (3, vec![0, 2, 5], true));
+    assert_eq!(planned(&loop_b(), one_probe), (2, vec![0, 3], true));
+    assert_eq!(planned(&loop_c(), one_probe), (1, vec![2, 0], true));
+    assert_eq!(
+        plan(&loop_a(), one_probe).unwrap().to_string(),
+        "interval 3 resource 2 recurrence 3 stages 3 smallest\n\
+         op 0 start 0 stage 0 cycle 0 order 0\n\
+         op 1 start 2 stage 0 cycle 2 order 1\n\
+         op 2 start 5 stage 1 cycle 2 order 0"
+    );
+}
+
+/// Interval 3, the bound of loop B2, has no schedule, and it takes the search 72 probes to say so.
+#[test]
+fn plans_above_the_bound_are_smallest_where_the_search_ends() {
+    let file = loop_b2();
+    let with_budget = |budget| Request {
+        budget,
+        ..short(4, 8)
+    };
+    assert_eq!(planned(&file, with_budget(72)), (4, vec![0, 3, 0], true));
+    assert_eq!(planned(&file, with_budget(71)), (4, vec![0, 3, 0], false));
+    let legal = plan(&file, with_budget(71)).unwrap().to_string();
+    assert!(legal.starts_with("interval 4 resource 3 recurrence 1 stages 2 legal\nop 0 start 0 "));
+    for request in [short(3, 8), short(2, 8), short(4, 3)] {
+        assert_eq!(
+            plan(&file, request),
+            Err(search(&file, request).unwrap_err())
+        );
+    }
 }
 
 #[test]

@@ -93,7 +93,22 @@ pub fn verify(random: &mut Random, file: &[u8], interval: usize, starts: &[u16])
     })
 }
 
-pub fn search(
+/// The type of `sys::mw_search` and `sys::mw_plan`.
+pub type Scheduler = unsafe extern "C" fn(
+    *const u8,
+    usize,
+    usize,
+    usize,
+    usize,
+    *mut u16,
+    usize,
+    *mut u64,
+    usize,
+    *mut Answer,
+) -> usize;
+
+pub fn schedule(
+    scheduler: Scheduler,
     random: &mut Random,
     file: &[u8],
     request: mwelitunga::Request,
@@ -103,7 +118,7 @@ pub fn search(
     let (starts, rows) = (starts.part(), rows.part());
     // SAFETY: the slices are valid for their lengths, the answer for its eight numbers, and none overlaps another.
     told(random, |answer| unsafe {
-        sys::mw_search(
+        scheduler(
             file.as_ptr(),
             file.len(),
             request.cap,

@@ -14,6 +14,7 @@ mod definitions;
 mod files;
 mod lent;
 mod places;
+mod plans;
 mod random;
 mod safe;
 mod searches;

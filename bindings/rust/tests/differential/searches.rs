@@ -4,24 +4,24 @@ use crate::lent::{self, Lent};
 use crate::random::{self, damage, loops, Random};
 use crate::tally::Tally;
 use crate::{definitions, expected, safe};
-use mwelitunga::Schedule;
+use mwelitunga::{sys, Schedule};
 use plain::file::{read, Loop};
 use plain::search::{search, Found, NotFound, Request};
 use plain::writer::write;
 
 /// The rows that a search asks for.
-const ROWS: usize = 4096;
+pub const ROWS: usize = 4096;
 
-/// What is lent to a search.
+/// What is lent to a search or a plan.
 #[derive(Clone, PartialEq)]
-struct Memory {
-    starts: Lent<u16>,
-    rows: Lent<u64>,
+pub struct Memory {
+    pub starts: Lent<u16>,
+    pub rows: Lent<u64>,
 }
 
 impl Memory {
     /// Enough mostly, of exactly the length that is needed or longer; too short at times.
-    fn new(random: &mut Random, operations: usize) -> Memory {
+    pub fn new(random: &mut Random, operations: usize) -> Memory {
         let starts = match random.below(12) {
             0 => random.below(operations + 1),
             1..=5 => operations,
@@ -38,10 +38,22 @@ impl Memory {
             rows: Lent::new(random, rows),
         }
     }
+
+    /// Calls a C function with it.
+    pub fn schedule(
+        &mut self,
+        scheduler: lent::Scheduler,
+        random: &mut Random,
+        file: &[u8],
+        request: mwelitunga::Request,
+    ) -> lent::Told {
+        let (starts, rows) = (&mut self.starts, &mut self.rows);
+        lent::schedule(scheduler, random, file, request, starts, rows)
+    }
 }
 
 /// A request for a small loop: few probes mostly, so that a case is over soon.
-fn any_request(random: &mut Random) -> Request {
+pub fn any_request(random: &mut Random) -> Request {
     let mut request = Request {
         cap: match random.below(4) {
             0 => 4096,
@@ -72,7 +84,7 @@ fn any_request(random: &mut Random) -> Request {
 }
 
 /// What the C function tells.
-fn told(plain: &Result<Found, NotFound>) -> lent::Told {
+pub fn told(plain: &Result<Found, NotFound>) -> lent::Told {
     let mut told = expected(&plain.map_err(|none| none.refusal), |found| {
         vec![
             found.interval,
@@ -147,7 +159,7 @@ fn compare(
     let plain = search(file, request, left.starts.part(), left.rows.part());
 
     let asked = safe::request(request);
-    let raw = lent::search(random, file, asked, &mut memory.starts, &mut memory.rows);
+    let raw = memory.schedule(sys::mw_search, random, file, asked);
     assert_eq!(raw, told(&plain), "{case}");
     assert!(memory == left, "other memory is left: {case}");
 
