@@ -22,7 +22,7 @@ use Rattle.reservation.proofs.Stores.{cleared-length}
 use Rattle.board.specs.Board.{Board}
 use Rattle.board.proofs.Boards.{few-operations, sane-near, empty-board, rest-length}
 use Rattle.iterative.specs.Priority.{AllPlaced}
-use Rattle.iterative.specs.Placed.{Kept, Settled, Ready, Schedule, Untouched, Attempted, Asked}
+use Rattle.iterative.specs.Placed.{Kept, Settled, IntervalReady, LegalStarts, Untouched, AttemptLeaves, IntervalsAsked}
 
 -- ---- steps
 
@@ -52,7 +52,7 @@ module _ {f xs rows : List ℕ} {n ii h : ℕ} (b : Board f ii h xs rows) (e : n
           let z : _≡_ {A = ℕ} 0 1 = cc in absurd (omega arith)
 
   -- so it is legal, and below the horizon
-  pub schedule : Schedule (loopOf f) n ii h xs
+  pub schedule : LegalStarts (loopOf f) n ii h xs
   schedule = record {
     fine = legal-part (loopOf f) ii (accepted-ok f (b .accepted)) (b .numbers .some) (placed (take n xs)) (seats xs) part (b .sane .fine);
     near = λ o m. rw (getD-within xs o 0 65535 (omega (arith, room))) (sane-near (b .sane) o (all o m));
@@ -66,7 +66,7 @@ far-rest ii xs ys m e =
     let s : ii + (4096 - ii) ≡ 4096 = omega arith in
     ap (λ (k : ℕ). drop k xs) (sym s) ∙ sym (drop-drop (4096 - ii) ii xs) ∙ ap (drop (4096 - ii)) e ∙ drop-drop (4096 - ii) ii ys ∙ ap (λ (k : ℕ). drop k ys) s
 
-module _ {f xs₀ rows₀ rows₁ : List ℕ} {n ii h : ℕ} (q : Ready f n ii h xs₀ rows₀) (clear : rows₁ ≡ replicate ii 0 ++ drop ii rows₀) where
+module _ {f xs₀ rows₀ rows₁ : List ℕ} {n ii h : ℕ} (q : IntervalReady f n ii h xs₀ rows₀) (clear : rows₁ ≡ replicate ii 0 ++ drop ii rows₀) where
   room₁ : ii ≤ length rows₀
   room₁ = omega (arith, q .numbers .short, q .long)
 
@@ -75,7 +75,7 @@ module _ {f xs₀ rows₀ rows₁ : List ℕ} {n ii h : ℕ} (q : Ready f n ii h
   begins = empty-board rows₀ (q .accepted) (q .numbers) room₁ clear
 
   -- what its steps leave
-  pub attempted : {xs rows : List ℕ} {r : Bool} → Settled f n ii h rows₁ xs rows r → Attempted f n ii h xs₀ rows₀ xs rows r
+  pub attempted : {xs rows : List ℕ} {r : Bool} → Settled f n ii h rows₁ xs rows r → AttemptLeaves f n ii h xs₀ rows₀ xs rows r
   attempted {xs} {rows} s =
       let k = s .kept in
       record {
@@ -98,11 +98,11 @@ pub untouched-again : {xs₀ rows₀ xs rows xs′ rows′ : List ℕ} → Untou
 untouched-again a b = record { rest = b .rest ∙ a .rest; starts-length = b .starts-length ∙ a .starts-length; rows-length = b .rows-length ∙ a .rows-length }
 
 -- the next may begin
-pub ready-again : {f xs₀ rows₀ xs rows : List ℕ} {n ii h : ℕ} → Ready f n ii h xs₀ rows₀ → Untouched xs₀ rows₀ xs rows → Ready f n ii h xs rows
+pub ready-again : {f xs₀ rows₀ xs rows : List ℕ} {n ii h : ℕ} → IntervalReady f n ii h xs₀ rows₀ → Untouched xs₀ rows₀ xs rows → IntervalReady f n ii h xs rows
 ready-again q u = record { accepted = q .accepted; is-size = q .is-size; numbers = q .numbers; whole = u .starts-length ∙ q .whole; long = omega (arith, u .rows-length, q .long) }
 
 -- and so may one at another interval
-pub ready-at : {f xs₀ rows₀ xs rows : List ℕ} {n least cap h : ℕ} (ii : ℕ) → Asked f n least cap h xs₀ rows₀ → least ≤ ii → ii ≤ cap → Untouched xs₀ rows₀ xs rows → Ready f n ii h xs rows
+pub ready-at : {f xs₀ rows₀ xs rows : List ℕ} {n least cap h : ℕ} (ii : ℕ) → IntervalsAsked f n least cap h xs₀ rows₀ → least ≤ ii → ii ≤ cap → Untouched xs₀ rows₀ xs rows → IntervalReady f n ii h xs rows
 ready-at ii a low high u = record {
   accepted = a .accepted;
   is-size = a .is-size;

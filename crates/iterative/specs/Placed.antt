@@ -25,7 +25,7 @@ pub record Settled (f : List ℕ) (n ii h : ℕ) (rows xs′ rows′ : List ℕ)
 -- ---- one interval
 
 -- the file is accepted, interval and horizon are in range, and there is room
-pub record Ready (f : List ℕ) (n ii h : ℕ) (xs rows : List ℕ) : Type 0 where
+pub record IntervalReady (f : List ℕ) (n ii h : ℕ) (xs rows : List ℕ) : Type 0 where
   pub accepted : Accepted f
   pub is-size : n ≡ size (loopOf f)
   pub numbers : Numbers ii h
@@ -33,7 +33,7 @@ pub record Ready (f : List ℕ) (n ii h : ℕ) (xs rows : List ℕ) : Type 0 whe
   pub long : 4096 ≤ length rows
 
 -- the first n of these starts are legal at ii, and each is below h
-pub record Schedule (l : Loop) (n ii h : ℕ) (xs : List ℕ) : Type 0 where
+pub record LegalStarts (l : Loop) (n ii h : ℕ) (xs : List ℕ) : Type 0 where
   pub fine : legal l ii (take n xs) ≡ true
   pub near : (o : ℕ) → o < n → getD xs o 0 < h
 
@@ -44,14 +44,14 @@ pub record Untouched (xs rows xs′ rows′ : List ℕ) : Type 0 where
   pub rows-length : length rows′ ≡ length rows
 
 -- what an attempt at one interval leaves: a schedule where the answer says so
-pub record Attempted (f : List ℕ) (n ii h : ℕ) (xs rows xs′ rows′ : List ℕ) (r : Bool) : Type 0 where
-  pub found : r ≡ true → Schedule (loopOf f) n ii h xs′
+pub record AttemptLeaves (f : List ℕ) (n ii h : ℕ) (xs rows xs′ rows′ : List ℕ) (r : Bool) : Type 0 where
+  pub found : r ≡ true → LegalStarts (loopOf f) n ii h xs′
   pub untouched : Untouched xs rows xs′ rows′
 
 -- ---- the intervals
 
 -- the same for every interval from `least` to the cap
-pub record Asked (f : List ℕ) (n least cap h : ℕ) (xs rows : List ℕ) : Type 0 where
+pub record IntervalsAsked (f : List ℕ) (n least cap h : ℕ) (xs rows : List ℕ) : Type 0 where
   pub accepted : Accepted f
   pub is-size : n ≡ size (loopOf f)
   pub some : 1 ≤ least
@@ -61,12 +61,12 @@ pub record Asked (f : List ℕ) (n least cap h : ℕ) (xs rows : List ℕ) : Typ
   pub long : 4096 ≤ length rows
 
 -- interval r is one of those asked for, and the starts are a schedule at it
-pub record Found (l : Loop) (n least cap h : ℕ) (xs : List ℕ) (r : ℕ) : Type 0 where
+pub record FoundAt (l : Loop) (n least cap h : ℕ) (xs : List ℕ) (r : ℕ) : Type 0 where
   pub low : least ≤ r
   pub high : r ≤ cap
-  pub schedule : Schedule l n r h xs
+  pub schedule : LegalStarts l n r h xs
 
 -- what the intervals leave: a schedule at r, where r is not 0
 pub record Placed (f : List ℕ) (n least cap h : ℕ) (xs rows xs′ rows′ : List ℕ) (r : ℕ) : Type 0 where
-  pub found : (r ≡ 0 → ⊥) → Found (loopOf f) n least cap h xs′ r
+  pub found : (r ≡ 0 → ⊥) → FoundAt (loopOf f) n least cap h xs′ r
   pub untouched : Untouched xs rows xs′ rows′

@@ -11,7 +11,7 @@ ghost use Prim.Native.Nat.{_<_};
 ghost use Rattle.model.specs.Loop.{size};
 ghost use Rattle.model.specs.File.{loopOf};
 ghost use Rattle.board.specs.Board.{Board};
-ghost use Rattle.iterative.specs.Placed.{Ready, Kept, Settled, Attempted};
+ghost use Rattle.iterative.specs.Placed.{IntervalReady, Kept, Settled, AttemptLeaves};
 
 // One step: puts `op`, and takes out what is in its way; whether there is a start for it below the horizon. again[i] is the first start after the last one that operation i had, 0 at first.
 fn step(
@@ -77,8 +77,8 @@ fn attempt(
     starts: &mut [u16; 64],
     rows: &mut [u64],
 ) -> bool
-    requires { ⌜ Ready (now file) n interval horizon (now starts) (now rows) ⌝ }
-    ensures { λ r. ⌜ Attempted (now (file .entry)) n interval horizon (now (starts .entry)) (now (rows .entry)) (now (starts .exit)) (now (rows .exit)) r ⌝ }
+    requires { ⌜ IntervalReady (now file) n interval horizon (now starts) (now rows) ⌝ }
+    ensures { λ r. ⌜ AttemptLeaves (now (file .entry)) n interval horizon (now (starts .entry)) (now (rows .entry)) (now (starts .exit)) (now (rows .exit)) r ⌝ }
 {
     clear_rows(rows, interval);
     *starts = [65535u16; 64];
@@ -94,8 +94,8 @@ pub fn attempt_all(
     starts: &mut [u16; 64],
     rows: &mut [u64],
 ) -> bool
-    requires { ⌜ Ready (now file) n interval horizon (now starts) (now rows) ⌝ }
-    ensures { λ r. ⌜ Attempted (now (file .entry)) n interval horizon (now (starts .entry)) (now (rows .entry)) (now (starts .exit)) (now (rows .exit)) r ⌝ }
+    requires { ⌜ IntervalReady (now file) n interval horizon (now starts) (now rows) ⌝ }
+    ensures { λ r. ⌜ AttemptLeaves (now (file .entry)) n interval horizon (now (starts .entry)) (now (rows .entry)) (now (starts .exit)) (now (rows .exit)) r ⌝ }
 {
     let mut order = 0;
     while order < 4 {

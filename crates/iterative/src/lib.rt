@@ -9,7 +9,7 @@ use crate::attempt::attempt_all;
 use lower_bounds::larger;
 ghost use mathlib.Core.Path.{_≡_};
 ghost use Prim.Native.Nat.{_+_, _≤_, max, min};
-ghost use Rattle.iterative.specs.Placed.{Asked, Placed};
+ghost use Rattle.iterative.specs.Placed.{IntervalsAsked, Placed};
 
 // A number of 16 bits as a larger one.
 fn wide(x: u16) -> usize
@@ -42,7 +42,7 @@ pub fn place_all(
     starts: &mut [u16; 64],
     rows: &mut [u64],
 ) -> usize
-    requires { ⌜ Asked (now file) n least cap horizon (now starts) (now rows) ⌝ }
+    requires { ⌜ IntervalsAsked (now file) n least cap horizon (now starts) (now rows) ⌝ }
     ensures { λ r. ⌜ Placed (now (file .entry)) n least cap horizon (now (starts .entry)) (now (rows .entry)) (now (starts .exit)) (now (rows .exit)) r ⌝ }
 {
     let last = last_of(least, cap, horizon);

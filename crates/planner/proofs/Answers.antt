@@ -17,7 +17,7 @@ use Rattle.lower_bounds.specs.declared.LowerBounds.{LowerBounds}
 use Rattle.lower_bounds.specs.declared.LowerBounds.the-variants as lower
 use Rattle.search.proofs.Requests.{Passes, file-refuses, request-refuses, bound-positive}
 use Rattle.planner.specs.Answer.{by-check, by-bound, by-plan, planList, planRows, Plans}
-use Rattle.planner.specs.Parts.{asRefused, asUnbounded, AllPassed, Made}
+use Rattle.planner.specs.Parts.{asRefused, asUnbounded, AllPassed, PlanMade}
 use Rattle.planner.specs.declared.Planned.{Planned}
 
 module _ {f : List ℕ} {cap horizon budget : ℕ} {list rows : List ℕ} where
@@ -54,7 +54,7 @@ module _ {f : List ℕ} {cap horizon budget : ℕ} {list rows : List ℕ} where
           }
 
       -- its answer
-      pub by-make : {r : Planned} {list′ rows′ : List ℕ} → Made f x y cap horizon budget list rows r list′ rows′ → Plans f cap horizon budget list rows r list′ rows′
+      pub by-make : {r : Planned} {list′ rows′ : List ℕ} → PlanMade f x y cap horizon budget list rows r list′ rows′ → Plans f cap horizon budget list rows r list′ rows′
       by-make t = record {
         says = by-plan (record { resource = x; recurrence = y }) (t .end) (fine .none-fails) (rw e at is) (t .ends) (t .says);
         list-is = t .list-is ∙ ap (λ a. planList a list) (sym (t .says));

@@ -24,9 +24,9 @@ use Rattle.search.specs.declared.Searched.the-variants as searched
 use Rattle.search.specs.declared.Solution.{Solution}
 use Rattle.search.proofs.Promises.{demand2}
 use Rattle.search.proofs.Requests.{other-cap}
-use Rattle.iterative.specs.Placed.{Asked, Found, Placed}
+use Rattle.iterative.specs.Placed.{IntervalsAsked, Placed}
 use Rattle.planner.specs.Answer.{scheduled, unscheduled, planOf, LegalAt, PlanEnds}
-use Rattle.planner.specs.Parts.{capBelow, AllPassed, Made, Keepable, Keeps}
+use Rattle.planner.specs.Parts.{capBelow, AllPassed, PlanMade, Keepable, Keeps}
 use Rattle.planner.specs.declared.Planned.{Planned}
 use Rattle.planner.specs.declared.Planned.the-variants as planned
 use Rattle.planner.proofs.Plans.{upTo, planAt, at-bound, as-found, as-ended, below-found, below-ended}
@@ -53,7 +53,7 @@ module _ {f : List ℕ} {n resource recurrence cap horizon budget : ℕ} {list r
   few = omega (arith, p .is-size, ok .few)
 
   -- what the quick attempts ask for
-  pub asks : (least : ℕ) (starts : List ℕ) → least ≡ max resource recurrence → length starts ≡ 64 → Asked f n least cap horizon starts rows
+  pub asks : (least : ℕ) (starts : List ℕ) → least ≡ max resource recurrence → length starts ≡ 64 → IntervalsAsked f n least cap horizon starts rows
   asks least starts e w =
       record { accepted = p .accepted; is-size = p .is-size; some = omega (arith, p .positive); capped = p .capped; far = p .near; whole = w; long = p .long }
 
@@ -91,7 +91,7 @@ module _ {f : List ℕ} {n resource recurrence cap horizon budget : ℕ} {list r
       -- what keeping it comes to, where that ends right
       kept : {smallest : Bool} {list₂ list′ rows′ : List ℕ} {r : Planned} → list₂ ≡ list → Keeps f n resource recurrence quick smallest starts′ list₂ r list′
           → PlanEnds l q b (scheduled (planAt l b quick smallest (take n starts′))) → rows′ ≡ replicate 4096 0 ++ drop 4096 rows
-          → Made f resource recurrence cap horizon budget list rows r list′ rows′
+          → PlanMade f resource recurrence cap horizon budget list rows r list′ rows′
       kept {smallest} {list′ = list′} same k e rs =
           let long : length (take n starts′) ≡ n = length-take-le n starts′ (omega (arith, as-wide, few)) in
           let mine : take (size l) list′ ≡ take n starts′ = ap (λ (m : ℕ). take m list′) (sym (p .is-size)) ∙ ap (take n) (k .list-is) ∙ take-at (take n starts′) _ n long in
@@ -105,7 +105,7 @@ module _ {f : List ℕ} {n resource recurrence cap horizon budget : ℕ} {list r
 
       -- at the larger bound
       pub keeps-bound : {list′ rows′ : List ℕ} {r : Planned} → quick ≡ least → rows′ ≡ replicate 4096 0 ++ drop 4096 rows₁ → Keeps f n resource recurrence quick true starts′ list r list′
-          → Made f resource recurrence cap horizon budget list rows r list′ rows′
+          → PlanMade f resource recurrence cap horizon budget list rows r list′ rows′
       keeps-bound e rs k =
           let at : quick ≡ larger b = e ∙ least-is in
           kept refl k
@@ -151,7 +151,7 @@ module _ {f : List ℕ} {n resource recurrence cap horizon budget : ℕ} {list r
 
       -- it finds a schedule
       pub search-found : (x : Solution) → s ≡ searched.Found x
-          → Made f resource recurrence cap horizon budget list rows (planned.Found (record { interval = x .interval; resource = resource; recurrence = recurrence; stages = x .stages; smallest = true })) list₂ rows₂
+          → PlanMade f resource recurrence cap horizon budget list rows (planned.Found (record { interval = x .interval; resource = resource; recurrence = recurrence; stages = x .stages; smallest = true })) list₂ rows₂
       search-found x e =
           let starts : List ℕ = take (size l) list₂ in
           let a = ap (answerOf l list₂) e in
@@ -177,7 +177,7 @@ module _ {f : List ℕ} {n resource recurrence cap horizon budget : ℕ} {list r
         cleared-rows = all-cleared (done .rows-are ∙ ap (λ y. rowsAfter (answerOf l list₂ y) rows₁) e)
 
         -- nothing was found before: its end is that of the plan
-        pub search-ended : quick ≡ 0 → Made f resource recurrence cap horizon budget list rows (planned.Ended m d k) list₂ rows₂
+        pub search-ended : quick ≡ 0 → PlanMade f resource recurrence cap horizon budget list rows (planned.Ended m d k) list₂ rows₂
         search-ended z = record {
           end = unscheduled (record { number = m; detail = d }) k;
           says = refl;
@@ -190,7 +190,7 @@ module _ {f : List ℕ} {n resource recurrence cap horizon budget : ℕ} {list r
         pub room-left : (quick ≡ 0 → ⊥) → Keepable f n quick starts′ list₂
         room-left z = keepable z (ap length same-list)
 
-        pub keeps-quick : (z : quick ≡ 0 → ⊥) {list′ : List ℕ} {r : Planned} → Keeps f n resource recurrence quick (eqb m 10) starts′ list₂ r list′ → Made f resource recurrence cap horizon budget list rows r list′ rows₂
+        pub keeps-quick : (z : quick ≡ 0 → ⊥) {list′ : List ℕ} {r : Planned} → Keeps f n resource recurrence quick (eqb m 10) starts′ list₂ r list′ → PlanMade f resource recurrence cap horizon budget list rows r list′ rows₂
         keeps-quick z k = kept z same-list k (below-ended l q b some quick (take n starts′) (quick-at z) _ (ends-below z) (above z) (record { number = m; detail = d }) _ (ap (answerOf l list₂) e)) cleared-rows
 
       -- it is not refused: its checks pass, and the loop has bounds

@@ -46,7 +46,7 @@ pub record AllPassed (f : List ℕ) (n resource recurrence cap horizon budget : 
   pub long : 4096 ≤ length rows
 
 -- the plan is made and ends right, and the lent memory is as it says
-pub record Made (f : List ℕ) (resource recurrence cap horizon budget : ℕ) (list rows : List ℕ) (r : Planned) (list′ rows′ : List ℕ) : Type 0 where
+pub record PlanMade (f : List ℕ) (resource recurrence cap horizon budget : ℕ) (list rows : List ℕ) (r : Planned) (list′ rows′ : List ℕ) : Type 0 where
   pub end : PlanEnd
   pub says : planOf (loopOf f) list′ r ≡ answered end
   pub ends : PlanEnds (loopOf f) (record { cap = cap; horizon = horizon; budget = budget }) (record { resource = resource; recurrence = recurrence }) end

@@ -11,7 +11,7 @@ use search::Searched;
 use stages::stage_count;
 ghost use mathlib.Core.Path.{_≡_};
 ghost use Rattle.planner.specs.Answer.{Plans};
-ghost use Rattle.planner.specs.Parts.{asRefused, asUnbounded, capBelow, AllPassed, Made, Keepable, Keeps};
+ghost use Rattle.planner.specs.Parts.{asRefused, asUnbounded, capBelow, AllPassed, PlanMade, Keepable, Keeps};
 
 // A schedule: its interval, the two bounds, the stage count, and whether no smaller interval has one. The starts are in the caller's list.
 pub struct PlanFound {
@@ -98,7 +98,7 @@ fn make(
     rows: &mut [u64],
 ) -> Planned
     requires { ⌜ AllPassed (now file) n resource recurrence cap horizon budget (now list) (now rows) ⌝ }
-    ensures { λ r. ⌜ Made (now (file .entry)) resource recurrence cap horizon budget (now (list .entry)) (now (rows .entry)) r (now (list .exit)) (now (rows .exit)) ⌝ }
+    ensures { λ r. ⌜ PlanMade (now (file .entry)) resource recurrence cap horizon budget (now (list .entry)) (now (rows .entry)) r (now (list .exit)) (now (rows .exit)) ⌝ }
 {
     let least = larger(resource, recurrence);
     let mut starts = [65535u16; 64];
