@@ -5,6 +5,7 @@ use mathlib.Core.Logic.{_⊎_, inl, inr}
 use mathlib.Core.List.{List, [], _∷_, _++_, append-nil}
 use mathlib.Core.Option.{Option, none, some}
 use Prim.Native.Nat.{ℕ, suc, _+_, _-_, _≤_, _<_}
+use native.Mathlib.Nat.{sub-zero}
 use native.Mathlib.Decide.{decLt, ℕ-discrete}
 use native.Mathlib.Numerals.{add-one}
 use native.Mathlib.Omega.{arith}
@@ -27,7 +28,7 @@ use Rattle.reservation.specs.Rows.{overUses, withOne, lessOne, UsesIn}
 use Rattle.reservation.specs.Place.{firstMet}
 use Rattle.reservation.proofs.Placings.{legal-digits, reserve-place, release-uses, free-conflict, conflict-free, reserve-uses, reserve-release}
 use Rattle.descent.specs.Skip.{RowsOf, NextFree}
-use Rattle.descent.specs.Span.{inside, allowed, WindowIs}
+use Rattle.descent.specs.Span.{inside, allowed, WindowIs, Windowed}
 use Rattle.descent.specs.Tree.{under, treeAnswer, treeProbes, Res, broke, all, no-more, rest, run, runO}
 use Rattle.descent.specs.Descent.{MayTry, tell, Wrote, Ready, Done, below, branch}
 use Rattle.descent.specs.declared.Found.{Found}
@@ -273,15 +274,16 @@ module _ {f starts₀ rows₀ : List ℕ} {op n ii h : ℕ} (ready : Ready f sta
     }
 
     -- a start inside the window may be tried
-    pub may-try : (from to : ℕ) → WindowIs (loopOf f) ii (take op starts₀) h (length (loopOf f .deps)) from to → op < n → s < h → from ≤ s → s < to → {first : ℕ}
-        → first ≡ firstUseOf (loopOf f) op → MayTry f starts rows op n ii h s first
-    may-try from to w o l i j e =
+    pub may-try : {from to : ℕ} → Windowed (loopOf f) ii (take op starts₀) h from to → op < n → from ≤ s → s < to → {first : ℕ} → first ≡ firstUseOf (loopOf f) op
+        → MayTry f starts rows op n ii h s first
+    may-try {from} {to} w o i j e =
         let k = length (loopOf f .deps) in
+        let l : s < h = omega (arith, w .near) in
         record {
           ready = still;
           inside = o;
           start-near = l;
-          unbroken = ap (λ (xs : List ℕ). allowed (loopOf f) ii xs k s) (turn .kept) ∙ in-window (loopOf f) ii (take op starts₀) h k from to s w l i j;
+          unbroken = ap (λ (xs : List ℕ). allowed (loopOf f) ii xs k s) (turn .kept) ∙ in-window (loopOf f) ii (take op starts₀) h k from to s (w .is) l i j;
           first-is = e;
         }
 
@@ -339,12 +341,12 @@ module _ {f starts₀ rows₀ : List ℕ} {op n ii h : ℕ} (ready : Ready f sta
         if-none = λ k. goes-on k same;
       }
 
-  module _ (from to : ℕ) (w : WindowIs (loopOf f) ii (take op starts₀) h (length (loopOf f .deps)) from to) (near : to ≤ h) (o : op < n) where
+  module _ {from to : ℕ} (w : Windowed (loopOf f) ii (take op starts₀) h from to) (o : op < n) where
     -- no legal list goes on with a start outside the window
     outside : (t : ℕ) → t < h → (t < from) ⊎ (to ≤ t) → (q : List ℕ) → L (t ∷ q) ≡ false
     outside t l i =
         barred-below (loopOf f) ii (accepted-ok f (ready .accepted)) (ready .some) (take op starts₀) t (in-loop ready o)
-        (off-window (loopOf f) ii (take op starts₀) h (length (loopOf f .deps)) from to t w l i)
+        (off-window (loopOf f) ii (take op starts₀) h (length (loopOf f .deps)) from to t (w .is) l i)
 
     -- the next start of the window that the rows leave free is the next to try: no legal list goes on with one below the window, or with one that they exclude
     stands : {left : ℕ} {starts rows : List ℕ} {purse paid x s : ℕ} → AtProbe f starts₀ rows₀ op n ii h left starts rows purse paid → NextFree ii rows (opAt (loopOf f) op .uses) x to s
@@ -358,7 +360,7 @@ module _ {f starts₀ rows₀ : List ℕ} {op n ii h : ℕ} (ready : Ready f sta
     }
       where
         pick : (t : ℕ) → paid ≤ t → t < s → Dec (t < x) → (q : List ℕ) → L (t ∷ q) ≡ false
-        pick t l m (yes b) = outside t (omega (arith, next .ahead)) (inl (low t l b))
+        pick t l m (yes b) = outside t (omega (arith, next .ahead, w .near)) (inl (low t l b))
         pick t l m (no b) = taken-bars ready o t (λ e. next .taken t (omega arith) m (ap (λ (v : List ℕ). firstMet rowBase ii v t (opAt (loopOf f) op .uses)) (turn .rows-same) ∙ e))
 
     -- where the loop begins
@@ -376,15 +378,15 @@ module _ {f starts₀ rows₀ : List ℕ} {op n ii h : ℕ} (ready : Ready f sta
       arrives l =
           let e : paid + (s - paid) ≡ s = omega (arith, at .behind) in
           subst (AtProbe f starts₀ rows₀ op n ii h left starts rows (purse - (s - paid))) e
-          (passes (at .turn) (s - paid) (omega (arith, at .ahead)) l (λ t i j. at .barred t i (omega arith)))
+          (passes (at .turn) (s - paid) (omega (arith, at .ahead, w .near)) l (λ t i j. at .barred t i (omega arith)))
 
       -- the budget is spent on that, or nothing is left for s
       pub breaks : s < to → purse ≤ s - paid → Done (below f starts₀ op n ii h left) n op (take op starts₀) starts₀ starts Spent
       breaks i l = pick (decLt purse (s - paid))
         where
           pick : Dec (purse < s - paid) → Done (below f starts₀ op n ii h left) n op (take op starts₀) starts₀ starts Spent
-          pick (yes m) = runs-out (at .turn) (s - paid) (omega (arith, at .ahead, at .behind)) m (λ t j k. at .barred t j (omega arith))
-          pick (no m) = nothing-left (arrives (omega arith)) (omega arith) (omega arith)
+          pick (yes m) = runs-out (at .turn) (s - paid) (omega (arith, at .ahead, at .behind, w .near)) m (λ t j k. at .barred t j (omega arith))
+          pick (no m) = nothing-left (arrives (omega arith)) (omega (arith, w .near)) (omega arith)
 
       -- past the window no legal list goes on with what is left
       rest-barred : to ≤ s → Barred paid (h - paid)
@@ -402,6 +404,21 @@ module _ {f starts₀ rows₀ : List ℕ} {op n ii h : ℕ} (ready : Ready f sta
       -- or the budget is spent on it
       pub breaks-above : to ≤ s → purse < h - paid → Done (below f starts₀ op n ii h left) n op (take op starts₀) starts₀ starts Spent
       breaks-above past l = runs-out (at .turn) (h - paid) (omega (arith, at .turn .within)) l (rest-barred past)
+
+    -- a window with no start: none is barred by the rows, and all are paid for at once
+    module _ (empty : from ≡ to) where
+      -- where the loop would begin and end
+      nowhere : {left : ℕ} → AtStart f starts₀ rows₀ op n ii h left from to starts₀ rows₀ left 0 from
+      nowhere = enters (record { behind = omega arith; ahead = omega arith; free = λ l. absurd (omega arith); taken = λ t l m. absurd (omega arith) })
+
+      -- there is no list
+      pub leaves-empty : {left : ℕ} → h ≤ left → Done (below f starts₀ op n ii h left) n op (take op starts₀) starts₀ starts₀ (Nothing (left - h))
+      leaves-empty {left} l =
+          subst (λ (k : ℕ). Done (below f starts₀ op n ii h left) n op (take op starts₀) starts₀ starts₀ (Nothing (left - k))) (sub-zero h) (leaves (nowhere {left = left}) (omega arith) (omega arith))
+
+      -- or the budget is spent
+      pub breaks-empty : {left : ℕ} → left < h → Done (below f starts₀ op n ii h left) n op (take op starts₀) starts₀ starts₀ Spent
+      breaks-empty l = breaks-above nowhere (omega arith) (omega arith)
 
 -- ---- one start, which the dependences allow
 

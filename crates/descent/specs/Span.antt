@@ -2,7 +2,7 @@
 use mathlib.Core.Path.{_≡_}
 use mathlib.Core.Bool.{Bool, not, _&&_}
 use mathlib.Core.List.{List}
-use Prim.Native.Nat.{ℕ, _<_}
+use Prim.Native.Nat.{ℕ, _≤_, _<_}
 use lib.Dec.{leb, ltb}
 use lib.ListN.{length, getD}
 use Rattle.model.specs.Lists.{upFrom, anyOf}
@@ -40,3 +40,9 @@ WindowIs l ii xs h k a b = (s : ℕ) → inside a b s ≡ (ltb s h && allowed l 
 -- the first n starts are below 4,096
 abbrev pub Early : ℕ → List ℕ → Type 0
 Early n xs = (o : ℕ) → o < n → getD xs o 0 < 4096
+
+-- a window of starts below h, that from a to b - 1, for the operation after these starts, as all dependences of the loop leave it
+pub record Windowed (l : Loop) (ii : ℕ) (xs : List ℕ) (h a b : ℕ) : Type 0 where
+  pub is : WindowIs l ii xs h (length (l .deps)) a b
+  pub ordered : a ≤ b
+  pub near : b ≤ h

@@ -1,13 +1,14 @@
-// The search at one interval: two functions that call each other. `choose` takes the next operation in number order, works out its window and the number of its first
-// use once, and goes through the starts of the window that the rows leave free; `try_start` tests one start against the rows, reserves, lets `choose` go on with the next
-// operation, and releases. A start that the window or the rows exclude only costs its probe, and all those before the next start to try, or after the last, are paid for
-// at once. A start is paid for before it is tried, so what is left of the budget falls with every turn. Internal: each function asks for an accepted file and rows that
-// hold the operations placed so far.
+// The search at one interval, operation by operation in number order. `choose` works out what the search needs once, and begins. From there two functions call each other:
+// `pick` goes through those starts of an operation's window that the rows leave free, and `try_start` takes one of them, works out the window of the next operation and,
+// where that has a start, reserves, lets `pick` go on, and releases. A start that the window or the rows exclude only costs its probe: all those before the next start to
+// try, or after the last, are paid for at once, and so are all starts of an operation whose window has none. A start is paid for before it is tried, so what is left of
+// the budget falls with every turn. Internal: each function asks for an accepted file and rows that hold the operations placed so far.
 mod skip;
 mod window;
 
 use crate::skip::excluded;
 use crate::skip::next_free;
+use crate::window::Window;
 use crate::window::link;
 use crate::window::window_of;
 use loop_access::first_use;
@@ -22,6 +23,7 @@ ghost use lib.ListN.{take};
 ghost use Rattle.model.specs.Loop.{firstUseOf};
 ghost use Rattle.model.specs.File.{loopOf};
 ghost use Rattle.descent.specs.Links.{Linked};
+ghost use Rattle.descent.specs.Span.{Windowed};
 ghost use Rattle.descent.specs.Descent.{Ready, MayTry, Done, below, branch};
 
 // What a part of the search comes to: every operation has a start, and so much is left of the budget; the budget is spent; there is no list, and so much is left.
@@ -31,7 +33,7 @@ pub enum Found {
     Nothing(usize),
 }
 
-// The starts of operation `op` and of those after it. What is the same for all of them is worked out here, once.
+// The starts of operation `op` and of those after it.
 pub fn choose(
     file: &[u8],
     starts: &mut [u16],
@@ -51,6 +53,7 @@ pub fn choose(
     }
     let links = link(file);
     let first = first_use(file, op);
+    let w = window_of(file, &links, op, starts, interval, horizon);
     pick(
         file,
         &links,
@@ -61,11 +64,12 @@ pub fn choose(
         n,
         interval,
         horizon,
+        w,
         left,
     )
 }
 
-// The same, with the index of the dependences and the number of the operation's first use at hand.
+// The same where an operation is left, with the index of the dependences, the number of its first use and its window at hand.
 fn pick(
     file: &[u8],
     links: &[u16; 320],
@@ -76,16 +80,13 @@ fn pick(
     n: usize,
     interval: usize,
     horizon: usize,
+    w: Window,
     left: usize,
 ) -> Found
-    requires { ⌜ Ready (now file) (now starts) (now rows) op n interval horizon × Linked (loopOf (now file)) (now links) × (first ≡ firstUseOf (loopOf (now file)) op) ⌝ }
+    requires { ⌜ Ready (now file) (now starts) (now rows) op n interval horizon × Linked (loopOf (now file)) (now links) × (first ≡ firstUseOf (loopOf (now file)) op) × (op < n) × Windowed (loopOf (now file)) interval (take op (now starts)) horizon (w .from) (w .to) ⌝ }
     ensures done { λ r. ⌜ Done (below (now (file .entry)) (now (starts .entry)) op n interval horizon left) n op (take op (now (starts .entry))) (now (starts .entry)) (now (starts .exit)) r ⌝ }
     ensures same { λ r. ⌜ now (rows .exit) ≡ now (rows .entry) ⌝ }
 {
-    if op == n {
-        return Found::All(left);
-    }
-    let w = window_of(file, links, op, starts, interval, horizon);
     let mut purse = left;
     let mut paid = 0;
     let mut s = next_free(file, op, first, w.from, w.to, interval, rows);
@@ -128,8 +129,8 @@ fn pick(
     Found::Nothing(purse - above)
 }
 
-// Operation `op` at s, which its window has, and the operations after it. The probe is paid for. The number of its first use, `first`, is handed in, and that of the next
-// operation is as many more as this one has uses.
+// Operation `op` at s, which its window has, and the operations after it. The probe is paid for. Whether the rows leave s free is asked here, of any start of the window.
+// The number of the first use, `first`, is handed in, and that of the next operation is as many more as this one has uses.
 fn try_start(
     file: &[u8],
     links: &[u16; 320],
@@ -151,6 +152,16 @@ fn try_start(
         return Found::Nothing(left);
     }
     starts[op] = s as u16;
+    if op + 1 == n {
+        return Found::All(left);
+    }
+    let w = window_of(file, links, op + 1, starts, interval, horizon);
+    if w.from == w.to {
+        if left < horizon {
+            return Found::Spent;
+        }
+        return Found::Nothing(left - horizon);
+    }
     reserve(file, op, first, s, interval, rows);
     let next = first + use_count(file, op);
     let f = pick(
@@ -163,6 +174,7 @@ fn try_start(
         n,
         interval,
         horizon,
+        w,
         left,
     );
     release(file, op, first, s, interval, rows);

@@ -10,7 +10,7 @@ ghost use Prim.Native.Nat.{_<_, _≤_};
 ghost use lib.ListN.{length, take};
 ghost use Rattle.model.specs.Loop.{size};
 ghost use Rattle.model.specs.File.{loopOf, Accepted};
-ghost use Rattle.descent.specs.Span.{EarliestIs, TooLateIs, NarrowedIs, WindowIs, Early};
+ghost use Rattle.descent.specs.Span.{EarliestIs, TooLateIs, NarrowedIs, Windowed, Early};
 ghost use Rattle.descent.specs.Links.{laterEnd, Linked};
 
 // The starts from `from` to `to` - 1.
@@ -128,7 +128,7 @@ pub fn window_of(
     horizon: usize,
 ) -> Window
     requires { ⌜ Accepted (now file) × Linked (loopOf (now file)) (now links) × (op < size (loopOf (now file))) × (op ≤ length (now starts)) × Early op (now starts) × (interval ≤ 4096) ⌝ }
-    ensures { λ r. ⌜ WindowIs (loopOf (now (file .entry))) interval (take op (now (starts .entry))) horizon (length (loopOf (now (file .entry)) .deps)) (r .from) (r .to) × (r .from ≤ r .to) × (r .to ≤ horizon) ⌝ }
+    ensures { λ r. ⌜ Windowed (loopOf (now (file .entry))) interval (take op (now (starts .entry))) horizon (r .from) (r .to) ⌝ }
 {
     let m = dep_count(file);
     let mut w = Window {

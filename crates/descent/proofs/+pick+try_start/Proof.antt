@@ -7,14 +7,16 @@ use mathlib.Core.Option.{none}
 use Prim.Native.Nat.{ℕ, _+_, _-_, _*_, _<_}
 use native.Mathlib.Nat.{add-zero}
 use native.Mathlib.Omega.{arith}
-use lib.ListN.{length}
+use lib.ListN.{length, set, length-set}
 use borrow.Fn.Kinds.{In}
 use borrow.Fn.PlainCycle.{Measures, is, falls, and}
 use Rattle.model.specs.Loop.{opAt, firstUseOf}
 use Rattle.model.specs.File.{loopOf}
 use Rattle.model.specs.Table.{rowBase}
+use Rattle.reservation.specs.Rows.{overUses, withOne}
 use Rattle.reservation.specs.Place.{firstMet}
-use Rattle.descent.proofs.Steps.{AtProbe, AtStart, AfterProbe, rows-of, leaf, enters, moves, arrives, breaks, may-try, turned, leaves, breaks-above, op-few, next-use, next-few, unfit, can-reserve, deeper, can-release, given-back, back}
+use Rattle.descent.specs.Descent.{Ready}
+use Rattle.descent.proofs.Steps.{AtProbe, AtStart, AfterProbe, rows-of, leaf, enters, moves, arrives, breaks, may-try, turned, leaves, breaks-above, leaves-empty, breaks-empty, op-few, next-use, next-few, unfit, can-reserve, deeper, can-release, given-back, back}
 use Rattle.descent.proofs.pick.Reads as pick
 use Rattle.descent.proofs.pick.Kinds as pick-kinds
 use Rattle.descent.proofs.+pick+try_start.Lts-pick as pick-lts
@@ -31,7 +33,7 @@ use Rattle.descent.proofs.+pick+try_start.{statement}
 use Rattle.descent.proofs.+pick+try_start.Tie.{close}
 
 abbrev μ-pick : Measures 4 pick-kinds.ps ℕ
-μ-pick κs a = a .1 .1 .1 .1 .1 .1 .1 .1 .1 .0 * 2 + 1
+μ-pick κs a = a .1 .1 .1 .1 .1 .1 .1 .1 .1 .1 .0 * 2 + 1
 
 abbrev μ-try-start : Measures 4 try-start-kinds.ps ℕ
 μ-try-start κs a = a .1 .1 .1 .1 .1 .1 .1 .1 .1 .1 .0 * 2 + 2
@@ -51,19 +53,14 @@ try-start-below t =
 
 -- what each knows of those that it calls
 abbrev tries : ℕ → pick-lts.Claims
-tries t = (
-  window-of-reads.Asked,
-  window-of-reads.Learnt,
-  next-free-reads.Asked,
-  next-free-reads.Learnt,
-  try-start-below t,
-  try-start.Post,
-)
+tries t = (next-free-reads.Asked, next-free-reads.Learnt, try-start-below t, try-start.Post)
 
 abbrev calls : ℕ → try-start-lts.Claims
 calls t = (
   excluded-reads.Asked,
   excluded-reads.Learnt,
+  window-of-reads.Asked,
+  window-of-reads.Learnt,
   reserve-reads.Asked,
   reserve-reads.Learnt,
   use-count-reads.Asked,
@@ -75,53 +72,27 @@ calls t = (
 )
 
 abbrev pick-Inv-loop : pick-lts.InvT-loop
-pick-Inv-loop file links starts₀ rows₀ op first n interval horizon left w purse₀ paid₀ s₀ starts rows purse paid s =
+pick-Inv-loop file links starts₀ rows₀ op first n interval horizon w left purse₀ paid₀ s₀ starts rows purse paid s =
     AtStart file starts₀ rows₀ op n interval horizon left (w .from) (w .to) starts rows purse paid s
 
 abbrev pick-μ-loop : pick-lts.MeasureT-loop
-pick-μ-loop file links starts₀ rows₀ op first n interval horizon left w purse₀ paid₀ s₀ starts rows purse paid s = horizon - s
+pick-μ-loop file links starts₀ rows₀ op first n interval horizon w left purse₀ paid₀ s₀ starts rows purse paid s = horizon - s
 
 -- ---- pick
 
--- the entry of pick, from where its window is known
-abbrev entry : (t : ℕ) → pick-lts.After-window-of (tries t) (pick-at t) pick.Post pick-Inv-loop pick-μ-loop
-    → pick-lts.Start (tries t) (pick-at t) pick.Post pick-Inv-loop pick-μ-loop
-entry t g = g .before .before .before .before .before .before
-
--- there an operation is left
-inner : (t : ℕ) (g : pick-lts.After-window-of (tries t) (pick-at t) pick.Post pick-Inv-loop pick-μ-loop) → entry t g .args .op < entry t g .args .n
-inner t g = omega (arith, entry t g .pre .1 .0 .deep, g .before .before .if1 .left)
-
-pick-returns : (t : ℕ) → pick-lts.Need-returns (tries t) (pick-at t) pick.Post pick-Inv-loop pick-μ-loop
-pick-returns t c = (leaf (c .before .before .before .before .pre .1 .0) (c .if1 .taken), refl)
-
-pick-window-of-requires : (t : ℕ) → pick-lts.Need-window-of-requires (tries t) (pick-at t) pick.Post pick-Inv-loop pick-μ-loop
-pick-window-of-requires t c κs =
-    let p = c .before .before .before .before .before .pre .1 in
-    let r = p .0 in
-    (r .accepted, p .1, omega (arith, r .deep, r .is-size, c .before .if1 .left), omega (arith, r .deep, r .long), r .early, r .short)
-
 pick-next-free-requires : (t : ℕ) → pick-lts.Need-next-free-requires (tries t) (pick-at t) pick.Post pick-Inv-loop pick-μ-loop
 pick-next-free-requires t c κs =
-    let g = c .before in
-    let w = g .window-of in
-    (rows-of (entry t g .pre .1 .0) (inner t g) (entry t g .pre .1 .2) refl, w .ensures .1, omega (arith, w .ensures .2, entry t g .pre .1 .0 .near))
+    let b = c .before .before .before .before in
+    let p = b .pre .1 in
+    (rows-of (p .0) (p .3) (p .2) refl, p .4 .ordered, omega (arith, p .4 .near, p .0 .near))
 
 pick-loop-holds : (t : ℕ) → pick-lts.Need-loop-holds (tries t) (pick-at t) pick.Post pick-Inv-loop pick-μ-loop
 pick-loop-holds t c =
-    let g = c .before .before in
-    let w = g .window-of in
-    enters (entry t g .pre .1 .0) (w .result .from) (w .result .to) (w .ensures .0) (w .ensures .2) (inner t g) (c .next-free .ensures)
+    let p = c .before .before .before .before .before .pre .1 in enters (p .0) (p .4) (p .3) (c .next-free .ensures)
 
--- where the window is known, from the loop's head
-abbrev known : (t : ℕ) → pick-lts.At-loop (tries t) (pick-at t) pick.Post pick-Inv-loop pick-μ-loop
-    → pick-lts.After-window-of (tries t) (pick-at t) pick.Post pick-Inv-loop pick-μ-loop
-known t g = g .before .before .before
-
--- a start before the window's end is below the horizon
-near : (t : ℕ) (c : pick-lts.Then2 (tries t) (pick-at t) pick.Post pick-Inv-loop pick-μ-loop)
-    → c .before .before .loop .s < entry t (known t (c .before .before)) .args .horizon
-near t c = omega (arith, c .if2 .taken, known t (c .before .before) .window-of .ensures .2)
+-- the entry of pick, from its loop's head
+abbrev entry : (t : ℕ) → pick-lts.At-loop (tries t) (pick-at t) pick.Post pick-Inv-loop pick-μ-loop → pick-lts.Start (tries t) (pick-at t) pick.Post pick-Inv-loop pick-μ-loop
+entry t g = g .before .before .before .before .before .before
 
 pick-sub-passed : (t : ℕ) → pick-lts.Need-sub-passed (tries t) (pick-at t) pick.Post pick-Inv-loop pick-μ-loop
 pick-sub-passed t c = omega (arith, c .before .before .loop .inv .behind)
@@ -132,51 +103,53 @@ pick-same-length t c = c .before .before .before .loop .inv .turn .same-length
 pick-same-length-2 : (t : ℕ) → pick-lts.Need-same-length-2 (tries t) (pick-at t) pick.Post pick-Inv-loop pick-μ-loop
 pick-same-length-2 t c = ap (λ (l : List ℕ). length l) (c .before .before .before .loop .inv .turn .rows-same)
 
-pick-returns-2 : (t : ℕ) → pick-lts.Need-returns-2 (tries t) (pick-at t) pick.Post pick-Inv-loop pick-μ-loop
-pick-returns-2 t c =
+pick-returns : (t : ℕ) → pick-lts.Need-returns (tries t) (pick-at t) pick.Post pick-Inv-loop pick-μ-loop
+pick-returns t c =
     let g = c .before .before .before in
-    let w = known t g .window-of in (
-      breaks (entry t (known t g) .pre .1 .0) (w .result .from) (w .result .to) (w .ensures .0) (w .ensures .2) (inner t (known t g)) (g .loop .inv) (c .before .if2 .taken) (c .if3 .taken),
-      g .loop .inv .turn .rows-same,
-    )
+    let p = entry t g .pre .1 in
+    (breaks (p .0) (p .4) (p .3) (g .loop .inv) (c .before .if1 .taken) (c .if2 .taken), g .loop .inv .turn .rows-same)
 
 pick-sub-try-start : (t : ℕ) → pick-lts.Need-sub-try-start (tries t) (pick-at t) pick.Post pick-Inv-loop pick-μ-loop
-pick-sub-try-start t c = omega (arith, c .before .before .if3 .left)
+pick-sub-try-start t c = omega (arith, c .before .before .if2 .left)
 
 pick-sub-try-start-2 : (t : ℕ) → pick-lts.Need-sub-try-start-2 (tries t) (pick-at t) pick.Post pick-Inv-loop pick-μ-loop
-pick-sub-try-start-2 t c = omega (arith, c .before .before .if3 .left)
+pick-sub-try-start-2 t c = omega (arith, c .before .before .if2 .left)
 
 -- where the start is to be tried
-at : (t : ℕ) (e : pick-lts.Else3 (tries t) (pick-at t) pick.Post pick-Inv-loop pick-μ-loop)
+at : (t : ℕ) (e : pick-lts.Else2 (tries t) (pick-at t) pick.Post pick-Inv-loop pick-μ-loop)
     → let g = e .before .before .before in
-    let a = entry t (known t g) .args in
+    let a = entry t g .args in
     AtProbe (a .file .now) (a .starts .now) (a .rows .now) (a .op) (a .n) (a .interval) (a .horizon) (a .left) (g .loop .starts) (g .loop .rows)
     (g .loop .purse - (g .loop .s - g .loop .paid)) (g .loop .s)
 at t e =
     let g = e .before .before .before in
-    let w = known t g .window-of in
-    arrives (entry t (known t g) .pre .1 .0) (w .result .from) (w .result .to) (w .ensures .0) (w .ensures .2) (inner t (known t g)) (g .loop .inv) (omega (arith, e .if3 .left))
+    let p = entry t g .pre .1 in
+    arrives (p .0) (p .4) (p .3) (g .loop .inv) (omega (arith, e .if2 .left))
 
 pick-try-start-requires : (t : ℕ) → pick-lts.Need-try-start-requires (tries t) (pick-at t) pick.Post pick-Inv-loop pick-μ-loop
 pick-try-start-requires t c κs =
     let e = c .before .before in
     let g = e .before .before .before in
-    let b = entry t (known t g) in
-    let w = known t g .window-of in (
-      omega (arith, b .pre .0, g .loop .inv .turn .paid, e .if3 .left),
-      (may-try (b .pre .1 .0) (at t e) (w .result .from) (w .result .to) (w .ensures .0) (inner t (known t g)) (near t (e .before)) (g .loop .inv .begun) (e .before .if2 .taken) (b .pre .1 .2), b .pre .1 .1),
+    let b = entry t g in
+    let p = b .pre .1 in (
+      omega (arith, b .pre .0, g .loop .inv .turn .paid, e .if2 .left),
+      (may-try (p .0) (at t e) (p .4) (p .3) (g .loop .inv .begun) (e .before .if1 .taken) (p .2), p .1),
     )
+
+-- a start before the window's end is below the horizon
+near : (t : ℕ) (c : pick-lts.Then1 (tries t) (pick-at t) pick.Post pick-Inv-loop pick-μ-loop) → c .before .before .loop .s < entry t (c .before .before) .args .horizon
+near t c = omega (arith, c .if1 .taken, entry t (c .before .before) .pre .1 .4 .near)
 
 -- after the call
 there : (t : ℕ) (f : pick-lts.After-try-start (tries t) (pick-at t) pick.Post pick-Inv-loop pick-μ-loop)
     → let g = f .before .before .before .before .before .before in
-    let a = entry t (known t g) .args in
+    let a = entry t g .args in
     AfterProbe (a .file .now) (a .starts .now) (a .rows .now) (a .op) (a .n) (a .interval) (a .horizon) (a .left)
     (f .try-start .last .1 .1 .0) (f .try-start .last .1 .1 .1 .0) (f .try-start .result) (g .loop .s)
 there t f =
     let e = f .before .before .before in
     let g = e .before .before .before in
-    turned (entry t (known t g) .pre .1 .0) (at t e) (near t (e .before)) (λ z. omega (arith, e .if3 .left)) (f .try-start .ensures .0) (f .try-start .ensures .1)
+    turned (entry t g .pre .1 .0) (at t e) (near t (e .before)) (λ z. omega (arith, e .if2 .left)) (f .try-start .ensures .0) (f .try-start .ensures .1)
 
 pick-enum-known-f : (t : ℕ) → pick-lts.Need-enum-known-f (tries t) (pick-at t) pick.Post pick-Inv-loop pick-μ-loop
 pick-enum-known-f t c = c .match .keys1
@@ -187,8 +160,8 @@ pick-same-length-3 t c = there t (c .before .before .before .before .before .bef
 pick-same-length-4 : (t : ℕ) → pick-lts.Need-same-length-4 (tries t) (pick-at t) pick.Post pick-Inv-loop pick-μ-loop
 pick-same-length-4 t c = ap (λ (l : List ℕ). length l) (there t (c .before .before .before .before .before .before .before) .same)
 
-pick-returns-3 : (t : ℕ) → pick-lts.Need-returns-3 (tries t) (pick-at t) pick.Post pick-Inv-loop pick-μ-loop
-pick-returns-3 t c = let h = there t (c .before .before .before .before .before .before .before) in (h .if-all _ (c .before .f .given .1), h .same)
+pick-returns-2 : (t : ℕ) → pick-lts.Need-returns-2 (tries t) (pick-at t) pick.Post pick-Inv-loop pick-μ-loop
+pick-returns-2 t c = let h = there t (c .before .before .before .before .before .before .before) in (h .if-all _ (c .before .f .given .1), h .same)
 
 pick-enum-told : (t : ℕ) → pick-lts.Need-enum-told (tries t) (pick-at t) pick.Post pick-Inv-loop pick-μ-loop
 pick-enum-told t c = c .match .keys2
@@ -199,30 +172,25 @@ pick-same-length-5 t c = there t (c .before .before .before .before .before .bef
 pick-same-length-6 : (t : ℕ) → pick-lts.Need-same-length-6 (tries t) (pick-at t) pick.Post pick-Inv-loop pick-μ-loop
 pick-same-length-6 t c = ap (λ (l : List ℕ). length l) (there t (c .before .before .before .before .before .before) .same)
 
-pick-returns-4 : (t : ℕ) → pick-lts.Need-returns-4 (tries t) (pick-at t) pick.Post pick-Inv-loop pick-μ-loop
-pick-returns-4 t c = let h = there t (c .before .before .before .before .before .before) in (h .if-spent (c .enum-told .given .1), h .same)
+pick-returns-3 : (t : ℕ) → pick-lts.Need-returns-3 (tries t) (pick-at t) pick.Post pick-Inv-loop pick-μ-loop
+pick-returns-3 t c = let h = there t (c .before .before .before .before .before .before) in (h .if-spent (c .enum-told .given .1), h .same)
 
 pick-enum-known-f-2 : (t : ℕ) → pick-lts.Need-enum-known-f-2 (tries t) (pick-at t) pick.Post pick-Inv-loop pick-μ-loop
 pick-enum-known-f-2 t c = c .match .keys3
 
 -- at the end of a turn: where it began
-abbrev turn : (t : ℕ) → pick-lts.After-known-told2 (tries t) (pick-at t) pick.Post pick-Inv-loop pick-μ-loop
-    → pick-lts.Then2 (tries t) (pick-at t) pick.Post pick-Inv-loop pick-μ-loop
+abbrev turn : (t : ℕ) → pick-lts.After-known-told2 (tries t) (pick-at t) pick.Post pick-Inv-loop pick-μ-loop → pick-lts.Then1 (tries t) (pick-at t) pick.Post pick-Inv-loop pick-μ-loop
 turn t c = c .before .before .before .before .before .before .before .before .before .before .before
 
 pick-add-paid : (t : ℕ) → pick-lts.Need-add-paid (tries t) (pick-at t) pick.Post pick-Inv-loop pick-μ-loop
-pick-add-paid t c = omega (arith, near t (turn t c), entry t (known t (turn t c .before .before)) .fits .horizon)
+pick-add-paid t c = omega (arith, near t (turn t c), entry t (turn t c .before .before) .fits .horizon)
 
 pick-next-free-requires-2 : (t : ℕ) → pick-lts.Need-next-free-requires-2 (tries t) (pick-at t) pick.Post pick-Inv-loop pick-μ-loop
 pick-next-free-requires-2 t c κs =
     let d = c .before in
     let i = turn t d in
-    let g = known t (i .before .before) in
-    let w = g .window-of in (
-      rows-of (entry t g .pre .1 .0) (inner t g) (entry t g .pre .1 .2) (there t (d .before .before .before .before .before .before .before) .same),
-      omega (arith, i .if2 .taken),
-      omega (arith, w .ensures .2, entry t g .pre .1 .0 .near),
-    )
+    let p = entry t (i .before .before) .pre .1 in
+    (rows-of (p .0) (p .3) (p .2) (there t (d .before .before .before .before .before .before .before) .same), omega (arith, i .if1 .taken), omega (arith, p .4 .near, p .0 .near))
 
 pick-loop-less : (t : ℕ) → pick-lts.Need-loop-less (tries t) (pick-at t) pick.Post pick-Inv-loop pick-μ-loop
 pick-loop-less t c = let i = turn t (c .before .before) in omega (arith, near t i, c .next-free2 .ensures .behind)
@@ -231,10 +199,8 @@ pick-loop-again : (t : ℕ) → pick-lts.Need-loop-again (tries t) (pick-at t) p
 pick-loop-again t c =
     let d = c .before .before in
     let i = turn t d in
-    let g = known t (i .before .before) in
-    let w = g .window-of in
-    moves (entry t g .pre .1 .0) (w .result .from) (w .result .to) (w .ensures .0) (w .ensures .2) (inner t g) (there t (d .before .before .before .before .before .before .before) .if-none _ (d .before .f2 .given .1)) (c .next-free2 .ensures)
-    (omega (arith, i .before .before .loop .inv .begun))
+    let p = entry t (i .before .before) .pre .1 in
+    moves (p .0) (p .4) (p .3) (there t (d .before .before .before .before .before .before .before) .if-none _ (d .before .f2 .given .1)) (c .next-free2 .ensures) (omega (arith, i .before .before .loop .inv .begun))
 
 pick-sub-above : (t : ℕ) → pick-lts.Need-sub-above (tries t) (pick-at t) pick.Post pick-Inv-loop pick-μ-loop
 pick-sub-above t c = c .before .before .loop .inv .turn .within
@@ -245,13 +211,11 @@ pick-same-length-7 t c = c .before .before .before .loop .inv .turn .same-length
 pick-same-length-8 : (t : ℕ) → pick-lts.Need-same-length-8 (tries t) (pick-at t) pick.Post pick-Inv-loop pick-μ-loop
 pick-same-length-8 t c = ap (λ (l : List ℕ). length l) (c .before .before .before .loop .inv .turn .rows-same)
 
-pick-returns-5 : (t : ℕ) → pick-lts.Need-returns-5 (tries t) (pick-at t) pick.Post pick-Inv-loop pick-μ-loop
-pick-returns-5 t c =
+pick-returns-4 : (t : ℕ) → pick-lts.Need-returns-4 (tries t) (pick-at t) pick.Post pick-Inv-loop pick-μ-loop
+pick-returns-4 t c =
     let g = c .before .before .before in
-    let w = known t g .window-of in (
-      breaks-above (entry t (known t g) .pre .1 .0) (w .result .from) (w .result .to) (w .ensures .0) (w .ensures .2) (inner t (known t g)) (g .loop .inv) (c .before .if2 .left) (c .if4 .taken),
-      g .loop .inv .turn .rows-same,
-    )
+    let p = entry t g .pre .1 in
+    (breaks-above (p .0) (p .4) (p .3) (g .loop .inv) (c .before .if1 .left) (c .if3 .taken), g .loop .inv .turn .rows-same)
 
 pick-same-length-9 : (t : ℕ) → pick-lts.Need-same-length-9 (tries t) (pick-at t) pick.Post pick-Inv-loop pick-μ-loop
 pick-same-length-9 t c = c .before .before .before .loop .inv .turn .same-length
@@ -259,13 +223,11 @@ pick-same-length-9 t c = c .before .before .before .loop .inv .turn .same-length
 pick-same-length-10 : (t : ℕ) → pick-lts.Need-same-length-10 (tries t) (pick-at t) pick.Post pick-Inv-loop pick-μ-loop
 pick-same-length-10 t c = ap (λ (l : List ℕ). length l) (c .before .before .before .loop .inv .turn .rows-same)
 
-pick-returns-6 : (t : ℕ) → pick-lts.Need-returns-6 (tries t) (pick-at t) pick.Post pick-Inv-loop pick-μ-loop
-pick-returns-6 t c =
+pick-returns-5 : (t : ℕ) → pick-lts.Need-returns-5 (tries t) (pick-at t) pick.Post pick-Inv-loop pick-μ-loop
+pick-returns-5 t c =
     let g = c .before .before .before in
-    let w = known t g .window-of in (
-      leaves (entry t (known t g) .pre .1 .0) (w .result .from) (w .result .to) (w .ensures .0) (w .ensures .2) (inner t (known t g)) (g .loop .inv) (c .before .if2 .left) (c .if4 .left),
-      g .loop .inv .turn .rows-same,
-    )
+    let p = entry t g .pre .1 in
+    (leaves (p .0) (p .4) (p .3) (g .loop .inv) (c .before .if1 .left) (c .if3 .left), g .loop .inv .turn .rows-same)
 
 -- ---- try_start
 
@@ -304,35 +266,104 @@ try-start-mul-starts t c = omega (arith, op-few (first t c .pre .1 .0))
 try-start-slice-write-starts : (t : ℕ) → try-start-lts.Need-slice-write-starts (calls t) (try-start-at t) try-start.Post
 try-start-slice-write-starts t c = let p = first t c .pre .1 .0 in omega (arith, p .inside, p .ready .long)
 
+-- the search one operation deeper, with the rows as they would be with it
+next-ready : (t : ℕ) (f : Passed t) → let a = first t f .args in
+    Ready (a .file .now) (set (a .starts .now) (a .op) (a .s)) (overUses (withOne rowBase) (a .interval) (a .s) (opAt (loopOf (a .file .now)) (a .op) .uses) (length (opAt (loopOf (a .file .now)) (a .op) .uses)) (a .rows .now))
+    (a .op + 1) (a .n) (a .interval) (a .horizon)
+next-ready t f = deeper (first t f .pre .1 .0) (free t f) refl
+
+try-start-add-if2 : (t : ℕ) → try-start-lts.Need-add-if2 (calls t) (try-start-at t) try-start.Post
+try-start-add-if2 t c = omega (arith, op-few (first t c .pre .1 .0))
+
+try-start-same-length-2 : (t : ℕ) → try-start-lts.Need-same-length-2 (calls t) (try-start-at t) try-start.Post
+try-start-same-length-2 t c = simp length-set
+
+try-start-same-length-3 : (t : ℕ) → try-start-lts.Need-same-length-3 (calls t) (try-start-at t) try-start.Post
+try-start-same-length-3 t c = refl
+
+try-start-returns-2 : (t : ℕ) → try-start-lts.Need-returns-2 (calls t) (try-start-at t) try-start.Post
+try-start-returns-2 t c =
+    let f = c .before in
+    let b = first t f in
+    (back (b .pre .1 .0) (b .args .left) (leaf (next-ready t f) (c .if2 .taken)), refl)
+
+try-start-add-window-of : (t : ℕ) → try-start-lts.Need-add-window-of (calls t) (try-start-at t) try-start.Post
+try-start-add-window-of t c = omega (arith, op-few (first t (c .before) .pre .1 .0))
+
+-- there is a next operation
+further : (t : ℕ) (c : try-start-lts.Else2 (calls t) (try-start-at t) try-start.Post) → let a = first t (c .before) .args in a .op + 1 < a .n
+further t c = omega (arith, first t (c .before) .pre .1 .0 .inside, c .if2 .left)
+
+try-start-window-of-requires : (t : ℕ) → try-start-lts.Need-window-of-requires (calls t) (try-start-at t) try-start.Post
+try-start-window-of-requires t c κs =
+    let d = c .before in
+    let b = first t (d .before) in
+    let r = next-ready t (d .before) in
+    (r .accepted, b .pre .1 .1, omega (arith, r .is-size, further t d), omega (arith, r .long, further t d), r .early, r .short)
+
+try-start-same-length-4 : (t : ℕ) → try-start-lts.Need-same-length-4 (calls t) (try-start-at t) try-start.Post
+try-start-same-length-4 t c = simp length-set
+
+try-start-same-length-5 : (t : ℕ) → try-start-lts.Need-same-length-5 (calls t) (try-start-at t) try-start.Post
+try-start-same-length-5 t c = refl
+
+try-start-returns-3 : (t : ℕ) → try-start-lts.Need-returns-3 (calls t) (try-start-at t) try-start.Post
+try-start-returns-3 t c =
+    let v = c .before in
+    let w = v .before .before in
+    let d = w .before .before in
+    let b = first t (d .before) in
+    (back (b .pre .1 .0) (b .args .left) (breaks-empty (next-ready t (d .before)) (w .window-of .ensures) (further t d) (v .if3 .taken) (c .if4 .taken)), refl)
+
+try-start-same-length-6 : (t : ℕ) → try-start-lts.Need-same-length-6 (calls t) (try-start-at t) try-start.Post
+try-start-same-length-6 t c = simp length-set
+
+try-start-same-length-7 : (t : ℕ) → try-start-lts.Need-same-length-7 (calls t) (try-start-at t) try-start.Post
+try-start-same-length-7 t c = refl
+
+try-start-returns-4 : (t : ℕ) → try-start-lts.Need-returns-4 (calls t) (try-start-at t) try-start.Post
+try-start-returns-4 t c =
+    let v = c .before in
+    let w = v .before .before in
+    let d = w .before .before in
+    let b = first t (d .before) in
+    (back (b .pre .1 .0) (b .args .left) (leaves-empty (next-ready t (d .before)) (w .window-of .ensures) (further t d) (v .if3 .taken) (c .if4 .left)), refl)
+
 try-start-reserve-requires : (t : ℕ) → try-start-lts.Need-reserve-requires (calls t) (try-start-at t) try-start.Post
 try-start-reserve-requires t c κs =
-    let p = first t (c .before) .pre .1 .0 in (p .ready .accepted, omega (arith, p .inside, p .ready .is-size), can-reserve p (free t (c .before)), p .first-is)
+    let p = first t (c .before .before .before .before .before .before) .pre .1 .0 in
+    (p .ready .accepted, omega (arith, p .inside, p .ready .is-size), can-reserve p (free t (c .before .before .before .before .before .before)), p .first-is)
 
 -- where the operation is reserved
 abbrev kept : (t : ℕ) → try-start-lts.After-slice-known3 (calls t) (try-start-at t) try-start.Post → try-start-lts.After-reserve (calls t) (try-start-at t) try-start.Post
 kept t c = c .before .before
 
+-- and where its test was passed
+abbrev before : (t : ℕ) → try-start-lts.After-reserve (calls t) (try-start-at t) try-start.Post → Passed t
+before t v = v .before .before .before .before .before .before .before
+
 try-start-use-count-requires : (t : ℕ) → try-start-lts.Need-use-count-requires (calls t) (try-start-at t) try-start.Post
 try-start-use-count-requires t c κs =
-    let p = first t (kept t c .before .before) .pre .1 .0 in (p .ready .accepted, omega (arith, p .inside, p .ready .is-size))
+    let p = first t (before t (kept t c)) .pre .1 .0 in (p .ready .accepted, omega (arith, p .inside, p .ready .is-size))
 
 -- the first use of the next operation
 next-first : (t : ℕ) (c : try-start-lts.After-use-count (calls t) (try-start-at t) try-start.Post)
-    → let a = first t (kept t (c .before) .before .before) .args in a .first + c .use-count .result ≡ firstUseOf (loopOf (a .file .now)) (a .op + 1)
-next-first t c = next-use (first t (kept t (c .before) .before .before) .pre .1 .0) (c .use-count .ensures)
+    → let a = first t (before t (kept t (c .before))) .args in a .first + c .use-count .result ≡ firstUseOf (loopOf (a .file .now)) (a .op + 1)
+next-first t c = next-use (first t (before t (kept t (c .before))) .pre .1 .0) (c .use-count .ensures)
 
 try-start-add-next : (t : ℕ) → try-start-lts.Need-add-next (calls t) (try-start-at t) try-start.Post
-try-start-add-next t c = omega (arith, next-few (first t (kept t (c .before) .before .before) .pre .1 .0) (c .use-count .ensures))
+try-start-add-next t c = omega (arith, next-few (first t (before t (kept t (c .before))) .pre .1 .0) (c .use-count .ensures))
 
 try-start-add-pick : (t : ℕ) → try-start-lts.Need-add-pick (calls t) (try-start-at t) try-start.Post
-try-start-add-pick t c = omega (arith, op-few (first t (kept t (c .before .before .before) .before .before) .pre .1 .0))
+try-start-add-pick t c = omega (arith, op-few (first t (before t (kept t (c .before .before .before))) .pre .1 .0))
 
 try-start-pick-requires : (t : ℕ) → try-start-lts.Need-pick-requires (calls t) (try-start-at t) try-start.Post
 try-start-pick-requires t c κs =
     let u = c .before .before in
     let v = kept t (u .before) in
-    let f = v .before .before in
-    (omega (arith, first t f .pre .0), (deeper (first t f .pre .1 .0) (free t f) (v .reserve .ensures), first t f .pre .1 .1, next-first t u))
+    let f = before t v in
+    let w = v .before .before .before .before in
+    (omega (arith, first t f .pre .0), (deeper (first t f .pre .1 .0) (free t f) (v .reserve .ensures), first t f .pre .1 .1, next-first t u, further t (w .before .before), w .window-of .ensures))
 
 -- after the call: where the operation was reserved
 abbrev put : (t : ℕ) → try-start-lts.After-pick (calls t) (try-start-at t) try-start.Post → try-start-lts.After-reserve (calls t) (try-start-at t) try-start.Post
@@ -340,7 +371,7 @@ put t w = kept t (w .before .before .before .before)
 
 -- and where the test was passed
 abbrev passed : (t : ℕ) → try-start-lts.After-pick (calls t) (try-start-at t) try-start.Post → Passed t
-passed t w = put t w .before .before
+passed t w = before t (put t w)
 
 try-start-release-requires : (t : ℕ) → try-start-lts.Need-release-requires (calls t) (try-start-at t) try-start.Post
 try-start-release-requires t c κs =
@@ -359,15 +390,15 @@ as-before t c =
     let w = call t c in
     given-back (first t (passed t w) .pre .1 .0) (free t (passed t w)) (put t w .reserve .ensures) (w .pick .ensures .1) (c .before .before .release .ensures)
 
-try-start-same-length-2 : (t : ℕ) → try-start-lts.Need-same-length-2 (calls t) (try-start-at t) try-start.Post
-try-start-same-length-2 t c =
+try-start-same-length-8 : (t : ℕ) → try-start-lts.Need-same-length-8 (calls t) (try-start-at t) try-start.Post
+try-start-same-length-8 t c =
     let b = first t (passed t (call t c)) in back (b .pre .1 .0) (b .args .left) (call t c .pick .ensures .0) .same-length
 
-try-start-same-length-3 : (t : ℕ) → try-start-lts.Need-same-length-3 (calls t) (try-start-at t) try-start.Post
-try-start-same-length-3 t c = ap (λ (l : List ℕ). length l) (as-before t c)
+try-start-same-length-9 : (t : ℕ) → try-start-lts.Need-same-length-9 (calls t) (try-start-at t) try-start.Post
+try-start-same-length-9 t c = ap (λ (l : List ℕ). length l) (as-before t c)
 
-try-start-returns-2 : (t : ℕ) → try-start-lts.Need-returns-2 (calls t) (try-start-at t) try-start.Post
-try-start-returns-2 t c =
+try-start-returns-5 : (t : ℕ) → try-start-lts.Need-returns-5 (calls t) (try-start-at t) try-start.Post
+try-start-returns-5 t c =
     let b = first t (passed t (call t c)) in (back (b .pre .1 .0) (b .args .left) (call t c .pick .ensures .0), as-before t c)
 
 pub +pick+try-start-spec : {M : Type 1} → statement M
@@ -376,25 +407,23 @@ pub +pick+try-start-spec : {M : Type 1} → statement M
     pick.Post
     pick-Inv-loop
     pick-μ-loop
-    (pick-returns t)
-    (pick-window-of-requires t)
     (pick-next-free-requires t)
     (pick-loop-holds t)
     (pick-sub-passed t)
     (pick-same-length t)
     (pick-same-length-2 t)
-    (pick-returns-2 t)
+    (pick-returns t)
     (pick-sub-try-start t)
     (pick-sub-try-start-2 t)
     (pick-try-start-requires t)
     (pick-enum-known-f t)
     (pick-same-length-3 t)
     (pick-same-length-4 t)
-    (pick-returns-3 t)
+    (pick-returns-2 t)
     (pick-enum-told t)
     (pick-same-length-5 t)
     (pick-same-length-6 t)
-    (pick-returns-4 t)
+    (pick-returns-3 t)
     (pick-enum-known-f-2 t)
     (pick-add-paid t)
     (pick-next-free-requires-2 t)
@@ -403,10 +432,10 @@ pub +pick+try-start-spec : {M : Type 1} → statement M
     (pick-sub-above t)
     (pick-same-length-7 t)
     (pick-same-length-8 t)
-    (pick-returns-5 t)
+    (pick-returns-4 t)
     (pick-same-length-9 t)
     (pick-same-length-10 t)
-    (pick-returns-6 t))
+    (pick-returns-5 t))
     λ t. try-start-lts.spec (calls t)
     (try-start-at t)
     try-start.Post
@@ -416,12 +445,24 @@ pub +pick+try-start-spec : {M : Type 1} → statement M
     (try-start-cast-starts t)
     (try-start-mul-starts t)
     (try-start-slice-write-starts t)
+    (try-start-add-if2 t)
+    (try-start-same-length-2 t)
+    (try-start-same-length-3 t)
+    (try-start-returns-2 t)
+    (try-start-add-window-of t)
+    (try-start-window-of-requires t)
+    (try-start-same-length-4 t)
+    (try-start-same-length-5 t)
+    (try-start-returns-3 t)
+    (try-start-same-length-6 t)
+    (try-start-same-length-7 t)
+    (try-start-returns-4 t)
     (try-start-reserve-requires t)
     (try-start-use-count-requires t)
     (try-start-add-next t)
     (try-start-add-pick t)
     (try-start-pick-requires t)
     (try-start-release-requires t)
-    (try-start-same-length-2 t)
-    (try-start-same-length-3 t)
-    (try-start-returns-2 t)
+    (try-start-same-length-8 t)
+    (try-start-same-length-9 t)
+    (try-start-returns-5 t)

@@ -14,6 +14,9 @@ link-requires c κs = search needs
 first-use-requires : tie.Need-first-use-requires
 first-use-requires c κs = search needs
 
+window-of-requires : tie.Need-window-of-requires
+window-of-requires c κs = search needs
+
 pick-requires : tie.Need-pick-requires
 pick-requires c κs = search needs
 
@@ -29,4 +32,4 @@ returns-2 c = search needs
 pub choose-spec : {M : Type 1} → statement M
 choose-spec =
     tie.close
-    (tie.spec returns link-requires first-use-requires pick-requires same-length same-length-2 returns-2)
+    (tie.spec returns link-requires first-use-requires window-of-requires pick-requires same-length same-length-2 returns-2)

@@ -113,10 +113,11 @@ whole c =
     rw n at (h .loop .inv .2)
 
 returns : tie.Need-returns Inv-loop μ-loop
-returns c = (window-empty _ _ _ _ _ _ _ (whole (c .before .before)) (c .if1 .taken), omega arith, omega arith)
+returns c = record { is = window-empty _ _ _ _ _ _ _ (whole (c .before .before)) (c .if1 .taken); ordered = omega arith; near = omega arith }
 
 returns-2 : tie.Need-returns-2 Inv-loop μ-loop
-returns-2 c = (whole (c .before .before), omega arith, window-end _ _ _ _ _ _ _ (whole (c .before .before)) (c .if1 .left))
+returns-2 c =
+    let w = whole (c .before .before) in record { is = w; ordered = omega (arith, c .if1 .left); near = window-end _ _ _ _ _ _ _ w (c .if1 .left) }
 
 pub window-of-spec : {M : Type 1} → statement M
 window-of-spec =
