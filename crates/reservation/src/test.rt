@@ -1,5 +1,5 @@
 // The conflict test: an operation against the rows and against itself. It keeps no array of rows, and reads the row of a cycle once, for all uses. The number of the
-// operation's first use, `first`, is handed in: it is worked out once for each chosen operation, which is tested at many starts. Internal: it asks for that, for an accepted file, and for a start and an interval in range.
+// operation's first use, `first`, is handed in, as to the functions that reserve and release. Internal: it asks for that, for an accepted file, and for a start and an interval in range.
 use crate::Place;
 use loop_access::duration;
 use loop_access::offset;
