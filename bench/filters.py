@@ -378,6 +378,11 @@ def fits(loop):
     return LEAST <= len(ops) <= OPERATIONS and len(deps) <= DEPENDENCES
 
 
+def longest(loop):
+    """The most cycles for which an operation holds a slot."""
+    return max(duration for _, uses in loop[0] for _, duration in uses)
+
+
 def draw(kind, chance):
     """A loop of a kind: the first drawn that a loop file can hold."""
     while True:
