@@ -11,22 +11,25 @@
 //     rustc --edition 2021 -C opt-level=3 -C codegen-units=1 -L target/staticlib bench/library.rs -o target/bench/library
 
 mod calls;
+mod measure;
 #[allow(dead_code)] // not all of it is measured
 mod one_by_one;
 #[allow(dead_code)] // not all of it is measured
 #[path = "../bindings/plain/src/lib.rs"]
 mod plain;
+#[allow(dead_code)] // not every call is measured
+mod proved;
 mod sides;
 #[allow(dead_code)] // not every function is measured
 #[path = "../bindings/rust/src/sys.rs"]
 mod sys;
 
 use calls::{draw_calls, told, CALLS};
+use measure::{number, read, timed, Side};
+use proved::*;
 use sides::*;
 use std::hint::black_box;
-use std::path::Path;
-use std::time::Instant;
-use std::{env, fs, process};
+use std::{env, process};
 
 // How often a turn repeats a call that is short.
 const REPEATS: usize = 20;
@@ -35,18 +38,6 @@ const REPEATS: usize = 20;
 struct Measured {
     times: Vec<Vec<f64>>,
     left: Memory,
-}
-
-// One side of a call.
-type Side<'a> = &'a dyn Fn(&mut Memory);
-
-// Microseconds for one call.
-fn timed(repeats: usize, m: &mut Memory, call: Side) -> f64 {
-    let began = Instant::now();
-    for _ in 0..repeats {
-        call(black_box(&mut *m));
-    }
-    1e6 * began.elapsed().as_secs_f64() / repeats as f64
 }
 
 // The sides in turn, each time another one first; what they leave has to be the same. The first turn only brings all into
@@ -97,7 +88,7 @@ fn search_row(turns: usize, horizon: usize, path: &str) -> Result<(), String> {
         &[
             &|m| one_by_one_search(black_box(&file), horizon, m),
             &|m| rust_search(black_box(&file), horizon, m),
-            &|m| proved_search(black_box(&file), horizon, m),
+            &|m| proved_search(black_box(&file), Asked::below(horizon), m),
         ],
     )?;
     let call = format!("search, horizon {horizon}, loop {name}");
@@ -153,17 +144,6 @@ fn open_row(turns: usize, interval: usize, path: &str) -> Result<(), String> {
     let call = format!("session without calls, interval {interval}, loop {name}");
     print(&call, 1, "opening", &m, &[]);
     Ok(())
-}
-
-// The name of a loop file, and what is in it.
-fn read(path: &str) -> Result<(String, Vec<u8>), String> {
-    let name = Path::new(path).file_stem().unwrap_or_default();
-    let file = fs::read(path).map_err(|why| why.to_string())?;
-    Ok((name.to_string_lossy().into_owned(), file))
-}
-
-fn number(text: &str) -> Result<usize, String> {
-    text.parse().map_err(|_| format!("{text} is no number"))
 }
 
 fn row(turns: usize, kind: &str, words: &[String]) -> Result<(), String> {

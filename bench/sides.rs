@@ -1,47 +1,14 @@
-// The sides of a call: the library's C function, as the Rust crate declares it, and plain Rust that does the same; of a search
-// also plain Rust that pays for starts one by one. What a call gives back and writes is in a Memory, so that the sides can be
-// compared whole.
-//
-// What the header asks of a caller holds in each unsafe block: a pointer is that of a slice or an array, goes with its length
-// (eight numbers for an answer, 64 starts for a session), and what is written overlaps nothing.
+// The sides of a call in plain Rust, of a search also one that pays for starts one by one; the library's own are in bench/proved.rs.
+// All leave what they give back and write in a Memory, so that the sides can be compared whole.
 
 use crate::one_by_one;
 use crate::plain::bounds::bounds;
 use crate::plain::replay::replay;
 use crate::plain::search::{search, Found, NotFound, Request};
-use crate::plain::session::Starts;
-use crate::plain::{Refusal, LONGEST};
-use crate::sys::{mw_bounds, mw_search, mw_session};
-
-// The cap and the budget of every search, and the horizon of every session.
-pub const CAP: usize = 4096;
-pub const BUDGET: usize = 1_000_000;
-pub const HORIZON: usize = 4096;
-
-#[link(name = "mwelitunga", kind = "static")]
-extern "C" {}
-
-#[derive(PartialEq)]
-pub struct Memory {
-    pub result: usize,
-    pub answer: [u64; 8],
-    pub starts: Starts,
-    pub rows: Vec<u64>,
-    pub replies: Vec<u64>,
-}
+use crate::plain::Refusal;
+use crate::proved::{Memory, BUDGET, CAP, SESSION_HORIZON};
 
 impl Memory {
-    // With room for the replies to n calls, and filled with what no call leaves.
-    pub fn new(n: usize) -> Memory {
-        Memory {
-            result: usize::MAX,
-            answer: [u64::MAX; 8],
-            starts: [12345; 64],
-            rows: vec![u64::MAX; LONGEST],
-            replies: vec![u64::MAX; 2 * n],
-        }
-    }
-
     // A result of 0, and an answer that has these words after the first.
     fn accept(&mut self, words: &[usize]) {
         self.result = 0;
@@ -92,10 +59,6 @@ pub fn rust_bounds(file: &[u8], m: &mut Memory) {
     }
 }
 
-pub fn proved_bounds(file: &[u8], m: &mut Memory) {
-    m.result = unsafe { mw_bounds(file.as_ptr(), file.len(), &mut m.answer) };
-}
-
 pub fn one_by_one_search(file: &[u8], horizon: usize, m: &mut Memory) {
     let found = one_by_one::search(file, asked(horizon), &mut m.starts, &mut m.rows);
     m.tell(found);
@@ -106,28 +69,11 @@ pub fn rust_search(file: &[u8], horizon: usize, m: &mut Memory) {
     m.tell(found);
 }
 
-pub fn proved_search(file: &[u8], horizon: usize, m: &mut Memory) {
-    m.result = unsafe {
-        mw_search(
-            file.as_ptr(),
-            file.len(),
-            CAP,
-            horizon,
-            BUDGET,
-            m.starts.as_mut_ptr(),
-            m.starts.len(),
-            m.rows.as_mut_ptr(),
-            m.rows.len(),
-            &mut m.answer,
-        )
-    };
-}
-
 pub fn rust_session(file: &[u8], interval: usize, calls: &[u64], m: &mut Memory) {
     let ended = replay(
         file,
         interval,
-        HORIZON,
+        SESSION_HORIZON,
         calls,
         &mut m.rows,
         &mut m.replies,
@@ -137,23 +83,4 @@ pub fn rust_session(file: &[u8], interval: usize, calls: &[u64], m: &mut Memory)
         Ok(r) => m.accept(&[r.calls, r.checkpoints]),
         Err(refusal) => m.refuse(refusal),
     }
-}
-
-pub fn proved_session(file: &[u8], interval: usize, calls: &[u64], m: &mut Memory) {
-    m.result = unsafe {
-        mw_session(
-            file.as_ptr(),
-            file.len(),
-            interval,
-            HORIZON,
-            calls.as_ptr(),
-            calls.len(),
-            m.rows.as_mut_ptr(),
-            m.rows.len(),
-            m.replies.as_mut_ptr(),
-            m.replies.len(),
-            &mut m.starts,
-            &mut m.answer,
-        )
-    };
 }

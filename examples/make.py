@@ -54,6 +54,12 @@ def loop_file(ops, deps):
     return head + b"".join(body for _, body in bodies)
 
 
+def renumbered(ops, deps, order):
+    """The same loop with operation order[i] as operation i."""
+    number = {op: i for i, op in enumerate(order)}
+    return [ops[op] for op in order], [(number[source], number[target], *rest) for source, target, *rest in deps]
+
+
 class Mistake(Exception):
     """What is wrong with a description: the line's number, the word as it is told, and what was expected."""
 
