@@ -3,3 +3,4 @@ pub mod Random
 pub mod Drawn
 pub mod Picture
 pub mod Lists
+pub mod Tally

@@ -6,3 +6,4 @@ pub mod lists;
 pub mod loops;
 pub mod picture;
 pub mod random;
+pub mod tally;
