@@ -1,10 +1,7 @@
 // Random loops with a request each.
-use std::num::wrapping_add_usize;
 use trial::draw;
 use trial::drawn::Drawn;
-use trial::drawn::field;
 use trial::drawn::least;
-use trial::drawn::with_dep;
 use trial::random::next;
 use trial::random::pick;
 
@@ -12,26 +9,6 @@ use trial::random::pick;
 pub struct Request {
     pub drawn: Drawn,
     pub allowance: usize,
-}
-
-// Dependence e of two operations without distance, and the other way round as the next one: the two fix one start by the other. A delay of 4 counts as 3, since -4 is not drawn.
-fn turn(d: Drawn, e: usize) -> Drawn {
-    let from = field(d, e, 0);
-    let to = field(d, e, 1);
-    let x = least(field(d, e, 2), 9);
-    if from == to {
-        return d;
-    }
-    let there = with_dep(d, e, from, to, x, 0);
-    with_dep(there, wrapping_add_usize(e, 1), to, from, 12 - x, 0)
-}
-
-// For three states of four the second dependence is the first the other way round, and the fourth the third.
-fn turned(d: Drawn) -> Drawn {
-    if 2 < pick(d.seed, 0, 4) {
-        return d;
-    }
-    turn(turn(d, 0), 2)
 }
 
 // An allowance: 1 to 64 for a state of three, else more than any of these loops takes.
@@ -57,7 +34,7 @@ pub fn draw(seed: usize) -> Request {
     let timed = draw::draw_latencies(d, 4);
     let used = draw::draw_uses(timed, 4);
     Request {
-        drawn: turned(draw::draw_deps(used, 5)),
+        drawn: draw::turned(draw::draw_deps(used, 5)),
         allowance: allowance(f),
     }
 }

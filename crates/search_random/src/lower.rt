@@ -5,14 +5,7 @@ use trial::drawn::Drawn;
 use trial::drawn::duration;
 use trial::drawn::field;
 use trial::drawn::lag;
-ghost use Prim.Native.Nat.{_≤_};
-
-// The larger.
-pub fn larger(a: usize, b: usize) -> usize
-    ensures { λ r. ⌜ b ≤ r ⌝ }
-{
-    if a < b { b } else { a }
-}
+use trial::drawn::larger;
 
 // The total of durations on a slot. Operations that the loop does not have use none.
 fn total(d: Drawn, slot: usize) -> usize {

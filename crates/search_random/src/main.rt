@@ -5,21 +5,12 @@ mod drawing;
 mod lower;
 mod words;
 
-use std::num::wrapping_add_usize;
+use trial::tally::more;
 
 // The generator's state, and the counts in the order of the line that prints them: how many loops agree, how many there are, and the answers of each kind.
 struct Tally {
     seed: usize,
     counts: [usize; 9],
-}
-
-// One more of a kind; 9 is none.
-fn more(counts: [usize; 9], kind: usize) -> [usize; 9] {
-    let mut out = counts;
-    if kind < 9 {
-        out[kind] = wrapping_add_usize(out[kind], 1);
-    }
-    out
 }
 
 // 0, where a loop that agrees is counted, or 9, and a line that says that it does not.

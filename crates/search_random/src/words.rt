@@ -1,87 +1,28 @@
 // The answer to a drawn loop by going through all lists of starts, and the probes by their definition: all pairs of a legal list and a next start are looked at.
 use crate::answer::Answer;
 use crate::drawing::Request;
-use crate::lower::larger;
 use crate::lower::recurrence;
 use crate::lower::resource;
 use std::num::wrapping_add_usize;
 use trial::drawn::Drawn;
 use trial::drawn::NOWHERE;
-use trial::drawn::holds;
+use trial::drawn::larger;
 use trial::drawn::latency;
-use trial::drawn::least;
 use trial::drawn::start_of;
-use trial::picture;
+use trial::lists::NONE;
+use trial::lists::first_legal;
+use trial::lists::legal;
+use trial::lists::word;
 
-// What stands for the number of a list where there is none: no list's number comes close, nor does this one divided by 5 four times.
-const NONE: usize = 18446744073709551615;
-
-// A list of starts, and what is left of its number: 0, or more where there is no such list.
-struct Listed {
-    starts: [u16; 6],
-    left: usize,
-}
-
-// List number `code` of k starts, of all those below the horizon in dictionary order. The others are nowhere.
-fn word(code: usize, k: usize, horizon: u16) -> Listed {
-    let h = larger(horizon as usize, 1);
-    let mut starts = [NOWHERE; 6];
-    let mut left = code;
-    let mut i = least(k, 6);
-    while 0 < i {
-        i -= 1;
-        starts[i] = (left % h % 65536) as u16;
-        left = left / h;
-    }
-    Listed {
-        starts: starts,
-        left: left,
-    }
-}
-
-// Whether all dependences among the operations that are placed hold.
-fn all_hold(d: Drawn, starts: &[u16; 6], interval: u16) -> bool {
-    let mut held = true;
-    let mut e = 0;
-    while e < d.m {
-        held = held & holds(d, e, starts, interval);
-        e += 1;
-    }
-    held
-}
-
-// Whether there is list number `code` of k starts, and it is legal for the first k operations.
-fn legal(d: Drawn, code: usize, k: usize, interval: u16) -> bool {
-    let w = word(code, k, d.horizon);
-    let starts = w.starts;
-    if 0 < w.left {
-        return false;
-    }
-    if !all_hold(d, &starts, interval) {
-        return false;
-    }
-    let painted = picture::of_starts(d, &starts, interval);
-    !picture::twice(&painted)
-}
-
-// The number of the first legal list of all n starts. There are 625 lists at most.
-fn first_legal(d: Drawn, interval: u16) -> usize {
-    let mut code = 0;
-    while code < 625 {
-        if legal(d, code, d.n, interval) {
-            return code;
-        }
-        code += 1;
-    }
-    NONE
-}
+// The number of lists of 4 starts below horizon 5; no loop has more.
+const LISTS: usize = 625;
 
 // The pairs of k starts that count: the first k - 1 are legal, and the number of all k is not above the last one.
 fn pairs(d: Drawn, k: usize, interval: u16, last: usize) -> usize {
     let h = larger(d.horizon as usize, 1);
     let mut count = 0;
     let mut code = 0;
-    while code < 625 {
+    while code < LISTS {
         if (code <= last) & legal(d, code / h, k, interval) {
             count = wrapping_add_usize(count, 1);
         }
@@ -90,7 +31,7 @@ fn pairs(d: Drawn, k: usize, interval: u16, last: usize) -> usize {
     count
 }
 
-// The probes at an interval: the pairs of all lengths, none after the beginning of the first legal list, where there is one. The number of a list without its last start is its own divided by the horizon.
+// The probes at an interval: the pairs of all lengths, none after the beginning of the first legal list, where there is one. The number of a list without its last start is its own divided by the horizon; what stands for none is above all numbers then too.
 fn probes(d: Drawn, interval: u16, first: usize) -> usize {
     let h = larger(d.horizon as usize, 1);
     let mut last = first;
@@ -144,7 +85,7 @@ fn sweep(d: Drawn, allowance: usize, least: usize) -> Answer {
     while interval < 6 {
         interval += 1;
         if (least <= interval as usize) & (interval <= d.interval) {
-            let first = first_legal(d, interval);
+            let first = first_legal(d, interval, LISTS);
             sum = wrapping_add_usize(sum, probes(d, interval, first));
             if allowance < sum {
                 return refused([1, 11, interval as usize, allowance, 0, 0]);

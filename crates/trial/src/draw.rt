@@ -1,10 +1,12 @@
 // The parts of a random loop, drawn from the generator's states one behind the other.
 use crate::drawn::Drawn;
 use crate::drawn::byte;
+use crate::drawn::field;
 use crate::drawn::least;
 use crate::drawn::with_dep;
 use crate::random::next;
 use crate::random::pick;
+use std::num::wrapping_add_usize;
 ghost use mathlib.Core.Path.{_≡_};
 ghost use Rattle.trial.specs.Drawn.{SameSizes, blankOf};
 
@@ -115,4 +117,28 @@ pub fn draw_deps(d: Drawn, count: usize) -> Drawn
         e += 1;
     }
     out
+}
+
+// Dependence e of two operations without distance, and the other way round as the next one: the two fix one start by the other. A delay of 4 counts as 3, since -4 is not drawn.
+fn turn(d: Drawn, e: usize) -> Drawn
+    ensures { λ r. ⌜ SameSizes d r ⌝ }
+{
+    let from = field(d, e, 0);
+    let to = field(d, e, 1);
+    let x = least(field(d, e, 2), 9);
+    if from == to {
+        return d;
+    }
+    let there = with_dep(d, e, from, to, x, 0);
+    with_dep(there, wrapping_add_usize(e, 1), to, from, 12 - x, 0)
+}
+
+// For three states of four the second dependence is the first the other way round, and the fourth the third.
+pub fn turned(d: Drawn) -> Drawn
+    ensures { λ r. ⌜ SameSizes d r ⌝ }
+{
+    if 2 < pick(d.seed, 0, 4) {
+        return d;
+    }
+    turn(turn(d, 0), 2)
 }

@@ -1,6 +1,6 @@
 // A small loop as it was drawn, and no file.
 ghost use mathlib.Core.Path.{_≡_};
-ghost use Prim.Native.Nat.{_<_, _≤_, _%_, min};
+ghost use Prim.Native.Nat.{_<_, _≤_, _%_, min, max};
 ghost use Rattle.trial.specs.Drawn.{durationOf, fieldOf, latencyOf, lagOf, startOf, setAt, onlyOf, holdsIn, withDep, SameSizes};
 
 // n operations, up to 6, and m dependences, up to 6; the interval and the horizon that it is tried with; and the generator's state behind its draws. The duration of operation o on slot s + 1 is
@@ -40,6 +40,14 @@ pub fn least(a: usize, b: usize) -> usize
     ensures { λ r. ⌜ r ≤ b ⌝ }
 {
     if a < b { a } else { b }
+}
+
+// The larger number.
+pub fn larger(a: usize, b: usize) -> usize
+    ensures { λ r. ⌜ r ≡ max a b ⌝ }
+    ensures { λ r. ⌜ b ≤ r ⌝ }
+{
+    if a < b { b } else { a }
 }
 
 // The duration of an operation on a slot, counted from 0.
