@@ -19,7 +19,7 @@ use Rattle.model.specs.Session.{placedIn}
 use Rattle.model.proofs.Lists.{getD-filled}
 use Rattle.model.proofs.File.{accepted-ok}
 use Rattle.model.proofs.StartLists.{set-places}
-use Rattle.model.proofs.Legality.{fits-conflict, Part}
+use Rattle.model.proofs.Legality.{fits-conflict, SubPlacing}
 use Rattle.model.proofs.Counts.{legal-part, legal-nothing}
 use Rattle.model.proofs.Table.{table-nil, cells-nothing}
 use Rattle.model.proofs.Good.{Good}
@@ -115,7 +115,7 @@ abbrev pub Fewer : (ys xs : List ℕ) → Type 0
 Fewer ys xs = (o : ℕ) → (getD ys o 65535 ≡ 65535) ⊎ (getD ys o 65535 ≡ getD xs o 65535)
 
 -- the placing is then a part of the other
-pub part-seats : (ys xs : List ℕ) → Fewer ys xs → Part (seats ys) (seats xs)
+pub part-seats : (ys xs : List ℕ) → Fewer ys xs → SubPlacing (seats ys) (seats xs)
 part-seats ys xs h = record { same = λ o t e. go o t e (h o) }
   where
     go : (o t : ℕ) → seats ys o ≡ some t → (getD ys o 65535 ≡ 65535) ⊎ (getD ys o 65535 ≡ getD xs o 65535) → seats xs o ≡ some t
@@ -125,7 +125,7 @@ part-seats ys xs h = record { same = λ o t e. go o t e (h o) }
 -- fewer operations are as sane
 pub part-sane : {l : Loop} {ii h : ℕ} {xs : List ℕ} (ys : List ℕ) → LoopOk l → 1 ≤ ii → Sane l ii h xs → length ys ≡ 64 → Fewer ys xs → Sane l ii h ys
 part-sane {l} {ii} {h} {xs} ys ok pos s whole fewer =
-    let p : Part (seats ys) (seats xs) = part-seats ys xs fewer in
+    let p : SubPlacing (seats ys) (seats xs) = part-seats ys xs fewer in
     record {
       whole = whole;
       blank = λ o m. pick o (s .blank o m) (fewer o);

@@ -139,14 +139,14 @@ probes-step L h m s k e = rw (answer-step L h m s k, over-cons h m s k, count-ap
 -- ---- with a budget
 
 -- what the start s comes to, of what its tree comes to and what the later starts come to with what is left
-abbrev pub after : ℕ → Res → (ℕ → Res) → Res
-after s broke f = broke
-after s (all w l) f = all (s ∷ w) l
-after s (no-more l) f = f l
+abbrev pub afterStart : ℕ → Res → (ℕ → Res) → Res
+afterStart s broke f = broke
+afterStart s (all w l) f = all (s ∷ w) l
+afterStart s (no-more l) f = f l
 
 -- one probe for s, then p of its tree, then p' of the later starts
 spend : (s b p p' : ℕ) (x o : Option (List ℕ)) → Dec (b < p) → Dec (b - p < p')
-    → resOf (suc b) (orLater s x o) (suc p + orNone x p') ≡ after s (resOf b x p) (λ l. resOf l o p')
+    → resOf (suc b) (orLater s x o) (suc p + orNone x p') ≡ afterStart s (resOf b x p) (λ l. resOf l o p')
 spend s b p p' x o (yes l) d = rw (lt-ltb b p l, lt-ltb (suc b) (suc p + orNone x p') (omega arith))
 spend s b p p' (some a) o (no n) d = rw (le-ltb b p (omega arith), le-ltb (suc b) (suc p + 0) (omega arith)) (ap (all (s ∷ a)) (omega arith))
 spend s b p p' none o (no n) (yes l) = rw (le-ltb b p (omega arith), lt-ltb (b - p) p' l, lt-ltb (suc b) (suc p + p') (omega arith))
@@ -171,7 +171,7 @@ run-unfit L h m b f =
 
 module _ (L : List ℕ → Bool) (h m : ℕ) where
   -- with some budget: one probe for s, then its tree, then the later starts
-  pub run-step : (s k b : ℕ) → L [] ≡ true → runO L h m s (suc k) (suc b) ≡ after s (run (under L (s ∷ [])) h m b) (runO L h m (suc s) k)
+  pub run-step : (s k b : ℕ) → L [] ≡ true → runO L h m s (suc k) (suc b) ≡ afterStart s (run (under L (s ∷ [])) h m b) (runO L h m (suc s) k)
   unfolding run runO
   run-step s k b e =
       rw (answer-step L h m s k, probes-step L h m s k e)

@@ -33,7 +33,7 @@ use Rattle.descent.specs.Tree.{under, treeAnswer, treeProbes, Res, broke
 use Rattle.descent.specs.Descent.{MayTry, tell, Wrote, Ready, Done, below, branch}
 use Rattle.descent.specs.declared.Found.{Found}
 use Rattle.descent.specs.declared.Found.the-variants.{All, Spent, Nothing}
-use Rattle.descent.proofs.Runs.{after, run-leaf, run-unfit, run-step, run-broke, run-end, run-all, run-skip-many, run-skip-broke}
+use Rattle.descent.proofs.Runs.{afterStart, run-leaf, run-unfit, run-step, run-broke, run-end, run-all, run-skip-many, run-skip-broke}
 
 -- ---- a start that does not fit
 
@@ -88,19 +88,19 @@ spare L h m b k = pick (ltb b (treeProbes L h m)) (treeAnswer L h m) (treeProbes
 
 module _ (s n : ℕ) (p starts : List ℕ) (f : ℕ → Res) (whole : Res) where
   -- it finds a list: so does the whole
-  all-then : (out : Res) (l : ℕ) → whole ≡ after s out f → tell out ≡ All l → Wrote n (p ++ s ∷ []) starts out → (All l ≡ tell whole) × Wrote n p starts whole
+  all-then : (out : Res) (l : ℕ) → whole ≡ afterStart s out f → tell out ≡ All l → Wrote n (p ++ s ∷ []) starts out → (All l ≡ tell whole) × Wrote n p starts whole
   all-then broke l e q w = let z : _≡_ {A = ℕ} 0 1 = cc in absurd (omega arith)
   all-then (all a k) l e q w = rw e (sym q, w ∙ append-snoc p s a)
   all-then (no-more k) l e q w = let z : _≡_ {A = ℕ} 0 1 = cc in absurd (omega arith)
 
   -- it spends the budget: so does the whole
-  spent-then : (out : Res) → whole ≡ after s out f → tell out ≡ Spent → (Spent ≡ tell whole) × Wrote n p starts whole
+  spent-then : (out : Res) → whole ≡ afterStart s out f → tell out ≡ Spent → (Spent ≡ tell whole) × Wrote n p starts whole
   spent-then broke e q = rw e (refl, tt)
   spent-then (all a k) e q = let z : _≡_ {A = ℕ} 0 1 = cc in absurd (omega arith)
   spent-then (no-more k) e q = let z : _≡_ {A = ℕ} 0 1 = cc in absurd (omega arith)
 
   -- it finds none: the later starts come to what the whole comes to
-  none-then : (out : Res) (l : ℕ) → whole ≡ after s out f → tell out ≡ Nothing l → f l ≡ whole
+  none-then : (out : Res) (l : ℕ) → whole ≡ afterStart s out f → tell out ≡ Nothing l → f l ≡ whole
   none-then broke l e q = let z : _≡_ {A = ℕ} 0 1 = cc in absurd (omega arith)
   none-then (all a k) l e q = let z : _≡_ {A = ℕ} 0 1 = cc in absurd (omega arith)
   none-then (no-more k) l e q = let z : k ≡ l = cc in rw (e, z)
@@ -293,12 +293,12 @@ module _ {f starts₀ rows₀ : List ℕ} {op n ii h : ℕ} (ready : Ready f sta
       onward = runO L h (n - op - 1) (suc s) (h - suc s)
 
       -- what s and the later starts come to
-      comes-to : below f starts₀ op n ii h left ≡ after s (branch f starts op n ii h s (purse - 1)) onward
+      comes-to : below f starts₀ op n ii h left ≡ afterStart s (branch f starts op n ii h s (purse - 1)) onward
       comes-to =
           let y : purse ≡ suc (purse - 1) = omega arith in
           sym (first-apart l) ∙ ap (λ (b : ℕ). runO L h (n - op - 1) s (suc (h - suc s)) b) y
           ∙ run-step L h (n - op - 1) s (h - suc s) (purse - 1) here
-          ∙ ap (λ (p : List ℕ). after s (run (under (under (legal (loopOf f) ii) p) (s ∷ [])) h (n - op - 1) (purse - 1)) onward) (sym (turn .kept))
+          ∙ ap (λ (p : List ℕ). afterStart s (run (under (under (legal (loopOf f) ii) p) (s ∷ [])) h (n - op - 1) (purse - 1)) onward) (sym (turn .kept))
 
       -- the list that s leads to
       wrote : Wrote n (take op starts₀ ++ s ∷ []) later (branch f starts op n ii h s (purse - 1))

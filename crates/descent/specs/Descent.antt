@@ -8,7 +8,7 @@ use Rattle.model.specs.Loop.{size, firstUseOf}
 use Rattle.model.specs.File.{loopOf, Accepted}
 use Rattle.model.specs.Legality.{placed, legal}
 use Rattle.model.specs.Table.{rowBase, IsTable, cellsOf}
-use Rattle.descent.specs.Span.{Early, allowed}
+use Rattle.descent.specs.Span.{Early, allowed, Windowed}
 use Rattle.descent.specs.Tree.{Res, broke, all, no-more, under, run}
 use Rattle.descent.specs.declared.Found.{Found}
 use Rattle.descent.specs.declared.Found.the-variants.{All, Spent, Nothing}
@@ -45,6 +45,13 @@ pub record MayTry (f starts rows : List ℕ) (op n ii h s first : ℕ) : Type 0 
   pub start-near : s < h
   pub unbroken : allowed (loopOf f) ii (take op starts) (length (loopOf f .deps)) s ≡ true
   pub first-is : first ≡ firstUseOf (loopOf f) op
+
+-- and may go through the starts of that operation: they are those of its window, from `from` to `to` - 1, and its first use has the number `first`
+pub record MayPick (f starts rows : List ℕ) (op n ii h first from to : ℕ) : Type 0 where
+  pub ready : Ready f starts rows op n ii h
+  pub inside : op < n
+  pub first-is : first ≡ firstUseOf (loopOf f) op
+  pub window : Windowed (loopOf f) ii (take op starts) h from to
 
 -- what a part of the search leaves, where `out` is what it comes to below the prefix p
 pub record Done (out : Res) (n op : ℕ) (p before after : List ℕ) (r : Found) : Type 0 where

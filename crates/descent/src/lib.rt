@@ -18,13 +18,10 @@ use reservation::cells::reserve;
 pub use window::earliest;
 ghost use mathlib.Core.Path.{_≡_};
 ghost use mathlib.Core.List.{[], _∷_, _++_};
-ghost use Prim.Native.Nat.{_<_};
 ghost use lib.ListN.{take};
-ghost use Rattle.model.specs.Loop.{firstUseOf};
 ghost use Rattle.model.specs.File.{loopOf};
 ghost use Rattle.descent.specs.Links.{Linked};
-ghost use Rattle.descent.specs.Span.{Windowed};
-ghost use Rattle.descent.specs.Descent.{Ready, MayTry, Done, below, branch};
+ghost use Rattle.descent.specs.Descent.{Ready, MayPick, MayTry, Done, below, branch};
 
 // What a part of the search comes to: every operation has a start, and so much is left of the budget; the budget is spent; there is no list, and so much is left.
 pub enum Found {
@@ -83,7 +80,7 @@ fn pick(
     w: Window,
     left: usize,
 ) -> Found
-    requires { ⌜ Ready (now file) (now starts) (now rows) op n interval horizon × Linked (loopOf (now file)) (now links) × (first ≡ firstUseOf (loopOf (now file)) op) × (op < n) × Windowed (loopOf (now file)) interval (take op (now starts)) horizon (w .from) (w .to) ⌝ }
+    requires { ⌜ MayPick (now file) (now starts) (now rows) op n interval horizon first (w .from) (w .to) × Linked (loopOf (now file)) (now links) ⌝ }
     ensures done { λ r. ⌜ Done (below (now (file .entry)) (now (starts .entry)) op n interval horizon left) n op (take op (now (starts .entry))) (now (starts .entry)) (now (starts .exit)) r ⌝ }
     ensures same { λ r. ⌜ now (rows .exit) ≡ now (rows .entry) ⌝ }
 {

@@ -14,7 +14,7 @@ use Rattle.model.specs.Legality.{placed}
 use Rattle.model.proofs.File.{accepted-ok}
 use Rattle.model.proofs.Firsts.{getD-within}
 use Rattle.model.proofs.StartLists.{placed-take, placed-after}
-use Rattle.model.proofs.Legality.{Part}
+use Rattle.model.proofs.Legality.{SubPlacing}
 use Rattle.model.proofs.Counts.{legal-part}
 use Rattle.reservation.specs.Seats.{seats}
 use Rattle.reservation.proofs.Seats.{seat-some}
@@ -22,7 +22,7 @@ use Rattle.reservation.proofs.Stores.{cleared-length}
 use Rattle.board.specs.Board.{Board}
 use Rattle.board.proofs.Boards.{few-operations, sane-near, empty-board, rest-length}
 use Rattle.iterative.specs.Priority.{AllPlaced}
-use Rattle.iterative.specs.Placed.{Kept, Settled, IntervalReady, LegalStarts, Untouched, AttemptLeaves, IntervalsAsked}
+use Rattle.iterative.specs.Placed.{Kept, PutAll, IntervalReady, LegalStarts, Untouched, AttemptLeaves, IntervalsAsked}
 
 -- ---- steps
 
@@ -41,7 +41,7 @@ module _ {f xs rows : List ℕ} {n ii h : ℕ} (b : Board f ii h xs rows) (e : n
   room = omega (arith, few-operations f (b .accepted), b .sane .whole)
 
   -- the list of starts says no other starts than the board
-  part : Part (placed (take n xs)) (seats xs)
+  part : SubPlacing (placed (take n xs)) (seats xs)
   part = record { same = λ o t p. go o t p (decLt o n) }
     where
       go : (o t : ℕ) → placed (take n xs) o ≡ some t → Dec (o < n) → seats xs o ≡ some t
@@ -75,7 +75,7 @@ module _ {f xs₀ rows₀ rows₁ : List ℕ} {n ii h : ℕ} (q : IntervalReady 
   begins = empty-board rows₀ (q .accepted) (q .numbers) room₁ clear
 
   -- what its steps leave
-  pub attempted : {xs rows : List ℕ} {r : Bool} → Settled f n ii h rows₁ xs rows r → AttemptLeaves f n ii h xs₀ rows₀ xs rows r
+  pub attempted : {xs rows : List ℕ} {r : Bool} → PutAll f n ii h rows₁ xs rows r → AttemptLeaves f n ii h xs₀ rows₀ xs rows r
   attempted {xs} {rows} s =
       let k = s .kept in
       record {

@@ -18,7 +18,7 @@ pub record Kept (f : List ℕ) (ii h : ℕ) (rows xs′ rows′ : List ℕ) : Ty
   pub rest : drop ii rows′ ≡ drop ii rows
 
 -- the same, and where the answer says so all n operations are placed
-pub record Settled (f : List ℕ) (n ii h : ℕ) (rows xs′ rows′ : List ℕ) (r : Bool) : Type 0 where
+pub record PutAll (f : List ℕ) (n ii h : ℕ) (rows xs′ rows′ : List ℕ) (r : Bool) : Type 0 where
   pub kept : Kept f ii h rows xs′ rows′
   pub all : r ≡ true → AllPlaced n xs′
 

@@ -11,7 +11,7 @@ ghost use Prim.Native.Nat.{_<_};
 ghost use Rattle.model.specs.Loop.{size};
 ghost use Rattle.model.specs.File.{loopOf};
 ghost use Rattle.board.specs.Board.{Board};
-ghost use Rattle.iterative.specs.Placed.{IntervalReady, Kept, Settled, AttemptLeaves};
+ghost use Rattle.iterative.specs.Placed.{IntervalReady, Kept, PutAll, AttemptLeaves};
 
 // One step: puts `op`, and takes out what is in its way; whether there is a start for it below the horizon. again[i] is the first start after the last one that operation i had, 0 at first.
 fn step(
@@ -36,7 +36,7 @@ fn step(
 }
 
 // Steps by one of the orders of priority, 10 an operation at most; whether all operations are placed.
-fn settle(
+fn put_all(
     file: &[u8],
     n: usize,
     interval: usize,
@@ -46,7 +46,7 @@ fn settle(
     rows: &mut [u64],
 ) -> bool
     requires { ⌜ Board (now file) interval horizon (now starts) (now rows) × (n ≡ size (loopOf (now file))) ⌝ }
-    ensures { λ r. ⌜ Settled (now (file .entry)) n interval horizon (now (rows .entry)) (now (starts .exit)) (now (rows .exit)) r ⌝ }
+    ensures { λ r. ⌜ PutAll (now (file .entry)) n interval horizon (now (rows .entry)) (now (starts .exit)) (now (rows .exit)) r ⌝ }
 {
     let mut ranks = [0u32; 64];
     rank_all(file, n, interval, order, &mut ranks);
@@ -82,7 +82,7 @@ fn attempt(
 {
     clear_rows(rows, interval);
     *starts = [65535u16; 64];
-    settle(file, n, interval, horizon, order, starts, rows)
+    put_all(file, n, interval, horizon, order, starts, rows)
 }
 
 // Attempts by each of the four orders of priority, until one succeeds; whether one does.

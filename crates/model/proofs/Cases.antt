@@ -15,7 +15,7 @@ use Rattle.model.specs.Bounds.{totalOn, resourceBound, Feasible, Closed,
 use Rattle.model.specs.Search.{words, answer, probes, stageCount, lastEnd, orderOf, listing, sweep, requestChecks, roomChecks, searchChecks, intervals, Request, Outcome, SearchIs, by-sweep}
 use Rattle.model.specs.Session.{Setup, Starts, Call, Reply, start, stateTable, openChecks, openFile, inTheWay, without, maskOf, step, after, replies}
 use Rattle.model.specs.Verifier.{proposalChecks, proposedChecks, firstBroken, firstPair, verdict, verifyFile}
-use Rattle.model.specs.Cases.{searched, Holds, AllHold, no-more, _also_, Called, foundAt, fileA, loopA, fileB2, fileC, ring, idle, starred}
+use Rattle.model.specs.Cases.{searched, CaseHolds, AllHold, no-more, _also_, Called, foundAt, fileA, loopA, fileB2, fileC, ring, idle, starred}
 use Rattle.model.proofs.Signed.{is-pos, of-lt}
 use Rattle.model.proofs.File.{accepted-ok}
 use Rattle.model.proofs.Bounds.{refutes}
@@ -96,7 +96,7 @@ lower-C : LowerIs (loopOf fileC) (answered (record { resource = 1; recurrence = 
 unfolding computing
 lower-C = lower-one fileC (record { starts = 2 ∷ 0 ∷ []; all-ops = refl; all-met = refl })
 
-search-A : Holds (searched fileA (record { cap = 4096; horizon = 8; budget = 1000000 }) (foundAt 3 2 3 3 10 (0 ∷ 2 ∷ 5 ∷ [])))
+search-A : CaseHolds (searched fileA (record { cap = 4096; horizon = 8; budget = 1000000 }) (foundAt 3 2 3 3 10 (0 ∷ 2 ∷ 5 ∷ [])))
 unfolding computing
 search-A = by-sweep (record { resource = 2; recurrence = 3 }) refl lower-A refl
 
@@ -106,7 +106,7 @@ search-B2 : {q : Request} {a : Outcome} → firstRefusal (searchChecks fileB2 q 
     → SearchIs fileB2 q 64 4096 (answered a)
 search-B2 passes comes = by-sweep (record { resource = 3; recurrence = 1 }) passes lower-B2 (ap answered (sym comes))
 
-case-6 : Holds (searched fileC (record { cap = 4096; horizon = 8; budget = 1000000 }) (foundAt 1 1 1 4 20 (2 ∷ 0 ∷ [])))
+case-6 : CaseHolds (searched fileC (record { cap = 4096; horizon = 8; budget = 1000000 }) (foundAt 1 1 1 4 20 (2 ∷ 0 ∷ [])))
 unfolding computing
 case-6 = by-sweep (record { resource = 1; recurrence = 1 }) refl lower-C refl
 

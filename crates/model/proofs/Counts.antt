@@ -13,11 +13,11 @@ use Rattle.model.specs.Lists.{upFrom, anyOf, countIf}
 use Rattle.model.specs.Loop.{Op, Loop, size, opAt, depAt, LoopOk}
 use Rattle.model.specs.Legality.{Placing, placed, brokenAt, meets, Cell, footprint, selfConflict, apart, legalAt, legal, placeAt, breaks, conflicts, fitsAt}
 use Rattle.model.specs.Table.{countOf, opCells, cellsOf}
-use Rattle.model.specs.Counts.{Capacity, single, Usage, unused, used, over, room, within, roomFor, legalWithin, fitsWithin}
+use Rattle.model.specs.Counts.{Capacity, single, Usage, unused, used, overfull, room, within, roomFor, legalWithin, fitsWithin}
 use Rattle.model.proofs.Lists.{false-not, and-left, and-right, and-both, or-false-left, or-false-right, or-both, same-true, sum-add, sum-same}
 use Rattle.model.proofs.Sums.{sum-only, sum-less}
 use Rattle.model.proofs.StartLists.{placed-past, placed-snoc}
-use Rattle.model.proofs.Legality.{each-meets, Part, meets-part, meets-place, placed-part}
+use Rattle.model.proofs.Legality.{each-meets, SubPlacing, meets-part, meets-place, placed-part}
 use Rattle.model.proofs.Table.{cells-nothing}
 use Rattle.model.proofs.Cells.{cells-each, each-cells}
 use Rattle.model.proofs.Conflicts.{apart-cells, cells-apart, self-once, once-self, cellsAt, cells-sum, apart-once, once-apart, share-place}
@@ -32,12 +32,12 @@ module _ (cap : Capacity) (u : Usage) (cells : List Cell) where
     where
       pick : Dec (countOf s r cells ≡ 0) → u s r + countOf s r cells ≤ max (cap s) (u s r)
       pick (yes z) = omega arith
-      pick (no n) = omega (arith, ltb-false (cap s) _ (cells-each (over cap u cells) cells (not-true _ e) s r (omega arith)))
+      pick (no n) = omega (arith, ltb-false (cap s) _ (cells-each (overfull cap u cells) cells (not-true _ e) s r (omega arith)))
 
   -- and the other way round, said of the slots and rows of the cells
   pub each-room : ((s r : ℕ) → 1 ≤ countOf s r cells → u s r + countOf s r cells ≤ cap s) → room cap u cells ≡ true
   unfolding room
-  each-room h = false-not _ (each-cells (over cap u cells) cells (λ s r l. le-ltb (cap s) _ (h s r l)))
+  each-room h = false-not _ (each-cells (overfull cap u cells) cells (λ s r l. le-ltb (cap s) _ (h s r l)))
 
 module _ (cap : Capacity) (l : Loop) (ii : ℕ) (f : Placing) where
   -- a placing is within the capacities exactly where no slot and row is used above its capacity
@@ -52,7 +52,7 @@ module _ (cap : Capacity) (l : Loop) (ii : ℕ) (f : Placing) where
 -- ---- fewer operations
 
 -- a part of the placed operations uses no more
-pub used-part : (l : Loop) (ii : ℕ) (f g : Placing) → Part f g → (s r : ℕ) → used l ii f s r ≤ used l ii g s r
+pub used-part : (l : Loop) (ii : ℕ) (f g : Placing) → SubPlacing f g → (s r : ℕ) → used l ii f s r ≤ used l ii g s r
 unfolding countIf
 used-part l ii f g p s r =
     rw (cells-sum l ii f s r, cells-sum l ii g s r) (sum-less (cellsAt l ii f s r) (cellsAt l ii g s r) 0 (size l) (λ o m n. go (opAt l o) (f o) (g o) (p .same o)))
@@ -62,11 +62,11 @@ used-part l ii f g p s r =
     go q (some t) y h = rw (h t refl) (omega arith)
 
 -- so it is within the capacities that all are within
-pub within-part : (cap : Capacity) (l : Loop) (ii : ℕ) (f g : Placing) → Part f g → within cap l ii g ≡ true → within cap l ii f ≡ true
+pub within-part : (cap : Capacity) (l : Loop) (ii : ℕ) (f g : Placing) → SubPlacing f g → within cap l ii g ≡ true → within cap l ii f ≡ true
 within-part cap l ii f g p e = each-within cap l ii f (λ s r. omega (arith, used-part l ii f g p s r, within-each cap l ii g e s r))
 
 -- and legal where all are
-pub legal-within-part : (cap : Capacity) (l : Loop) (ii : ℕ) (f g : Placing) → Part f g → legalWithin cap l ii g ≡ true → legalWithin cap l ii f ≡ true
+pub legal-within-part : (cap : Capacity) (l : Loop) (ii : ℕ) (f g : Placing) → SubPlacing f g → legalWithin cap l ii g ≡ true → legalWithin cap l ii f ≡ true
 unfolding legalWithin
 legal-within-part cap l ii f g p e =
     and-both (meets l ii f) (within cap l ii f) (meets-part l ii f g p (and-left (meets l ii g) (within cap l ii g) e))
@@ -162,7 +162,7 @@ module _ (l : Loop) (ii : ℕ) (ok : LoopOk l) (pos : 1 ≤ ii) where
   -- ---- legality
 
   -- what is legal for all is legal for some
-  pub legal-part : (f g : Placing) → Part f g → legalAt l ii g ≡ true → legalAt l ii f ≡ true
+  pub legal-part : (f g : Placing) → SubPlacing f g → legalAt l ii g ≡ true → legalAt l ii f ≡ true
   legal-part f g p e = sym (legal-single f) ∙ legal-within-part single l ii f g p (legal-single g ∙ e)
 
   -- a placing with one operation more is legal exactly where it was legal and the operation fits

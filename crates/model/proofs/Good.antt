@@ -19,7 +19,7 @@ use Rattle.model.specs.Session.{Setup, Starts, State, start, placedIn, C
 use Rattle.model.proofs.Lists.{false-not, and-both, or-false-left, or-false-right, or-both, length-tabulate, getD-tabulate, getD-filled, any-at, any-row, row-any, none-first}
 use Rattle.model.proofs.Checks.{passes-right, passes-head, passes-tail, not-found}
 use Rattle.model.proofs.StartLists.{set-places}
-use Rattle.model.proofs.Legality.{fits-tests, Part, breaks-same}
+use Rattle.model.proofs.Legality.{fits-tests, SubPlacing, breaks-same}
 use Rattle.model.proofs.Counts.{legal-part, legal-place, legal-nothing}
 
 -- starts that a session can come to
@@ -31,7 +31,7 @@ pub record Good (u : Setup) (xs : Starts) : Type 0 where
 -- ---- some of the starts
 
 -- where each start is there or gone, those that are left are a part
-pub left-part : (ys xs : Starts) (gone : ℕ → Bool) → ((p : ℕ) → getD ys p none ≡ cond (gone p) none (getD xs p none)) → Part (placedIn ys) (placedIn xs)
+pub left-part : (ys xs : Starts) (gone : ℕ → Bool) → ((p : ℕ) → getD ys p none ≡ cond (gone p) none (getD xs p none)) → SubPlacing (placedIn ys) (placedIn xs)
 left-part ys xs gone at = record { same = λ p x e. go (gone p) (getD xs p none) x (sym (at p) ∙ e) }
   where
     go : (b : Bool) (y : Option ℕ) (x : ℕ) → cond b none y ≡ some x → y ≡ some x
@@ -173,7 +173,7 @@ module _ (u : Setup) (ok : LoopOk (u .loop)) (pos : 1 ≤ u .ii) where
   -- some of good starts are good
   good-part : (xs ys : Starts) (gone : ℕ → Bool) → length ys ≡ length xs → ((p : ℕ) → getD ys p none ≡ cond (gone p) none (getD xs p none)) → Good u xs → Good u ys
   good-part xs ys gone e at h =
-      let p : Part (placedIn ys) (placedIn xs) = left-part ys xs gone at in
+      let p : SubPlacing (placedIn ys) (placedIn xs) = left-part ys xs gone at in
       record { whole = e ∙ h .whole; near = λ o t q. h .near o t (p .same o t q); fine = legal-part (u .loop) (u .ii) ok pos (placedIn ys) (placedIn xs) p (h .fine) }
 
   -- so are they with an operation more that fits

@@ -51,7 +51,7 @@ module _ (l : Loop) (ii : ℕ) (f : Placing) (o t : ℕ) where
 -- ---- fewer operations
 
 -- f places some of the operations of g, at the same starts
-pub record Part (f g : Placing) : Type 0 where
+pub record SubPlacing (f g : Placing) : Type 0 where
   pub same : (o t : ℕ) → f o ≡ some t → g o ≡ some t
 
 broken-part : (ii : ℕ) (d : Dep) (a b x y : Option ℕ) → ((t : ℕ) → a ≡ some t → x ≡ some t) → ((t : ℕ) → b ≡ some t → y ≡ some t)
@@ -61,13 +61,13 @@ broken-part ii d (some s) none x y p q h = refl
 broken-part ii d (some s) (some t) x y p q h = ap₂ (brokenAt ii d) (sym (p s refl)) (sym (q t refl)) ∙ h
 
 -- what meets all dependences for all does so for some
-pub meets-part : (l : Loop) (ii : ℕ) (f g : Placing) → Part f g → meets l ii g ≡ true → meets l ii f ≡ true
+pub meets-part : (l : Loop) (ii : ℕ) (f g : Placing) → SubPlacing f g → meets l ii g ≡ true → meets l ii f ≡ true
 meets-part l ii f g p h =
     each-meets l ii f (λ e m. broken-part ii (depAt l e) (f (depAt l e .src)) (f (depAt l e .dst)) (g (depAt l e .src)) (g (depAt l e .dst))
     (p .same (depAt l e .src)) (p .same (depAt l e .dst)) (meets-each l ii g h e m))
 
 -- the starts of a list begin with those of its beginning
-pub placed-part : (xs ys : List ℕ) → Part (placed xs) (placed (xs ++ ys))
+pub placed-part : (xs ys : List ℕ) → SubPlacing (placed xs) (placed (xs ++ ys))
 placed-part xs ys = record { same = go xs }
   where
     go : (xs : List ℕ) (o t : ℕ) → placed xs o ≡ some t → placed (xs ++ ys) o ≡ some t

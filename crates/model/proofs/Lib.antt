@@ -15,7 +15,7 @@ pub mod Table
 pub mod Cells
 pub mod Conflicts
 pub mod Counts
-pub mod Taken
+pub mod Room
 pub mod Bounds
 pub mod Answers
 pub mod Verifier

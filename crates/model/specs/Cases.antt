@@ -34,19 +34,19 @@ pub record Called (f : List ℕ) (ii horizon : ℕ) (cs : List Call) (rs : List 
   pub table : stateTable setup (after setup cs (start setup)) ≡ rows
 
 -- the case holds
-abbrev pub Holds : Case → Type 0
-Holds (reads f a) = readFile f ≡ a
-Holds (bounded f a) = BoundsIs f a
-Holds (judged f ii xs a) = verifyFile f ii xs ≡ a
-Holds (searched f q a) = SearchIs f q 64 4096 a
-Holds (listed ii xs ls) = listing ii xs ≡ ls
-Holds (called f ii horizon cs rs xs rows) = Called f ii horizon cs rs xs rows
+abbrev pub CaseHolds : Case → Type 0
+CaseHolds (reads f a) = readFile f ≡ a
+CaseHolds (bounded f a) = BoundsIs f a
+CaseHolds (judged f ii xs a) = verifyFile f ii xs ≡ a
+CaseHolds (searched f q a) = SearchIs f q 64 4096 a
+CaseHolds (listed ii xs ls) = listing ii xs ≡ ls
+CaseHolds (called f ii horizon cs rs xs rows) = Called f ii horizon cs rs xs rows
 
 infixr 20 _also_
 -- every case of the list holds: the first, and the others
 pub data AllHold : List Case → Type 0 where
   no-more : AllHold []
-  _also_ : {c : Case} {cs : List Case} → Holds c → AllHold cs → AllHold (c ∷ cs)
+  _also_ : {c : Case} {cs : List Case} → CaseHolds c → AllHold cs → AllHold (c ∷ cs)
 
 -- ---- the loops
 
@@ -75,16 +75,16 @@ fileA =
     ∷ []
 
 -- a use from the operation's start on
-abbrev pub at-once : ℕ → ℕ → Use
-at-once slot duration = record { slot = slot; offset = 0; duration = duration }
+abbrev pub startUse : ℕ → ℕ → Use
+startUse slot duration = record { slot = slot; offset = 0; duration = duration }
 
 -- the loop that A's file describes
 abbrev pub loopA : Loop
 loopA = record {
   ops =
-      record { latency = 2; uses = at-once 1 1 ∷ [] }
-      ∷ record { latency = 3; uses = at-once 2 2 ∷ [] }
-      ∷ record { latency = 1; uses = at-once 1 1 ∷ [] }
+      record { latency = 2; uses = startUse 1 1 ∷ [] }
+      ∷ record { latency = 3; uses = startUse 2 2 ∷ [] }
+      ∷ record { latency = 1; uses = startUse 1 1 ∷ [] }
       ∷ [];
   deps =
       record { src = 0; dst = 1; delay = pos 2; distance = 0 }

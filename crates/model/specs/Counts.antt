@@ -34,12 +34,12 @@ used l ii f s r = countOf s r (cellsOf l ii f)
 -- ---- room
 
 -- cell c is used above its capacity, by u and these cells
-abbrev pub over : Capacity → Usage → List Cell → Cell → Bool
-over cap u cells c = ltb (cap (c .slot)) (u (c .slot) (c .row) + countOf (c .slot) (c .row) cells)
+abbrev pub overfull : Capacity → Usage → List Cell → Cell → Bool
+overfull cap u cells c = ltb (cap (c .slot)) (u (c .slot) (c .row) + countOf (c .slot) (c .row) cells)
 
 -- beside u there is room for these cells: none of them is used above its capacity
 unfoldable pub room : Capacity → Usage → List Cell → Bool
-room cap u cells = not (anyOf (over cap u cells) cells)
+room cap u cells = not (anyOf (overfull cap u cells) cells)
 
 -- the placed operations are within the capacities: no slot is used in a row more often than it may be
 unfoldable pub within : Capacity → Loop → ℕ → Placing → Bool

@@ -20,14 +20,14 @@ use Rattle.planner.specs.declared.Planned.{Planned}
 use Rattle.planner.specs.declared.Planned.the-variants as planned
 
 -- a check's refusal as the planner's
-abbrev pub asRefused : Checked → Planned
-asRefused checked.Fine = planned.Refused 0 0
-asRefused (checked.Refused n d) = planned.Refused n d
+abbrev pub asPlanRefused : Checked → Planned
+asPlanRefused checked.Fine = planned.Refused 0 0
+asPlanRefused (checked.Refused n d) = planned.Refused n d
 
 -- the bounds'
-abbrev pub asUnbounded : LowerBounds → Planned
-asUnbounded (lower.Found a b) = planned.Refused 0 0
-asUnbounded (lower.Refused n d) = planned.Refused n d
+abbrev pub asPlanUnbounded : LowerBounds → Planned
+asPlanUnbounded (lower.Found a b) = planned.Refused 0 0
+asPlanUnbounded (lower.Refused n d) = planned.Refused n d
 
 -- the cap of the exact search: one below the interval that was found, or the cap itself where nothing was
 abbrev pub capBelow : ℕ → ℕ → ℕ

@@ -11,7 +11,7 @@ use search::Searched;
 use stages::stage_count;
 ghost use mathlib.Core.Path.{_≡_};
 ghost use Rattle.planner.specs.Answer.{Plans};
-ghost use Rattle.planner.specs.Parts.{asRefused, asUnbounded, capBelow, AllPassed, PlanMade, Keepable, Keeps};
+ghost use Rattle.planner.specs.Parts.{asPlanRefused, asPlanUnbounded, capBelow, AllPassed, PlanMade, Keepable, Keeps};
 
 // A schedule: its interval, the two bounds, the stage count, and whether no smaller interval has one. The starts are in the caller's list.
 pub struct PlanFound {
@@ -67,7 +67,7 @@ pub fn plan(
 
 // A check's refusal as the planner's. (A check that is fine has none, and is not asked for one.)
 fn refused(c: Checked) -> Planned
-    ensures { λ p. ⌜ p ≡ asRefused c ⌝ }
+    ensures { λ p. ⌜ p ≡ asPlanRefused c ⌝ }
 {
     match c {
         Checked::Fine => Planned::Refused(0, 0),
@@ -77,7 +77,7 @@ fn refused(c: Checked) -> Planned
 
 // The bounds' refusal as the planner's. (Bounds that were found have none, and are not asked for one.)
 fn unbounded(b: LowerBounds) -> Planned
-    ensures { λ p. ⌜ p ≡ asUnbounded b ⌝ }
+    ensures { λ p. ⌜ p ≡ asPlanUnbounded b ⌝ }
 {
     match b {
         LowerBounds::Found(_, _) => Planned::Refused(0, 0),

@@ -13,7 +13,7 @@ use Rattle.model.proofs.Lists.{and-right, or-false-left, or-false-right, take-d
 use Rattle.model.proofs.Table.{table-take, table-same}
 use Rattle.model.proofs.Conflicts.{apart-cells, apart-once, share-place}
 use Rattle.model.proofs.Counts.{used-place}
-use Rattle.model.proofs.Taken.{taken-conflicts, conflicts-taken}
+use Rattle.model.proofs.Room.{taken-conflicts, conflicts-taken}
 use Rattle.reservation.specs.Rows.{overUses, withOne, lessOne, UsesIn}
 use Rattle.reservation.specs.Place.{firstMet}
 use Rattle.reservation.proofs.RowUpdates.{uses-rest}

@@ -61,9 +61,9 @@ kept-few (swept.Nothing left) n = omega arith
 kept-few (swept.Spent ii) n = omega arith
 
 -- so the list has room for what it gets, and the starts have as many
-pub room : {f list rows : List ℕ} {n recurrence cap horizon : ℕ} (starts : List ℕ) (r : Swept) (count : ℕ) → Passed f n recurrence cap horizon list rows → length starts ≡ 64 → count ≡ keptOf r n
+pub list-room : {f list rows : List ℕ} {n recurrence cap horizon : ℕ} (starts : List ℕ) (r : Swept) (count : ℕ) → Passed f n recurrence cap horizon list rows → length starts ≡ 64 → count ≡ keptOf r n
     → (count ≤ length list) × (count ≤ length starts)
-room {f} {n = n} starts r count p wide e =
+list-room {f} {n = n} starts r count p wide e =
     let most : keptOf r n ≤ n = kept-few r n in
     (omega (arith, p .room), omega (arith, few f n (p .accepted) (p .is-size)))
 

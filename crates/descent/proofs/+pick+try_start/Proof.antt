@@ -84,11 +84,11 @@ pick-next-free-requires : (t : ℕ) → pick-lts.Need-next-free-requires (tries 
 pick-next-free-requires t c κs =
     let b = c .before .before .before .before in
     let p = b .pre .1 in
-    (rows-of (p .0) (p .3) (p .2) refl, p .4 .ordered, omega (arith, p .4 .near, p .0 .near))
+    (rows-of (p .0 .ready) (p .0 .inside) (p .0 .first-is) refl, p .0 .window .ordered, omega (arith, p .0 .window .near, p .0 .ready .near))
 
 pick-loop-holds : (t : ℕ) → pick-lts.Need-loop-holds (tries t) (pick-at t) pick.Post pick-Inv-loop pick-μ-loop
 pick-loop-holds t c =
-    let p = c .before .before .before .before .before .pre .1 in enters (p .0) (p .4) (p .3) (c .next-free .ensures)
+    let p = c .before .before .before .before .before .pre .1 in enters (p .0 .ready) (p .0 .window) (p .0 .inside) (c .next-free .ensures)
 
 -- the entry of pick, from its loop's head
 abbrev entry : (t : ℕ) → pick-lts.At-loop (tries t) (pick-at t) pick.Post pick-Inv-loop pick-μ-loop → pick-lts.Start (tries t) (pick-at t) pick.Post pick-Inv-loop pick-μ-loop
@@ -107,7 +107,7 @@ pick-returns : (t : ℕ) → pick-lts.Need-returns (tries t) (pick-at t) pick.Po
 pick-returns t c =
     let g = c .before .before .before in
     let p = entry t g .pre .1 in
-    (breaks (p .0) (p .4) (p .3) (g .loop .inv) (c .before .if1 .taken) (c .if2 .taken), g .loop .inv .turn .rows-same)
+    (breaks (p .0 .ready) (p .0 .window) (p .0 .inside) (g .loop .inv) (c .before .if1 .taken) (c .if2 .taken), g .loop .inv .turn .rows-same)
 
 pick-sub-try-start : (t : ℕ) → pick-lts.Need-sub-try-start (tries t) (pick-at t) pick.Post pick-Inv-loop pick-μ-loop
 pick-sub-try-start t c = omega (arith, c .before .before .if2 .left)
@@ -124,7 +124,7 @@ at : (t : ℕ) (e : pick-lts.Else2 (tries t) (pick-at t) pick.Post pick-Inv-loop
 at t e =
     let g = e .before .before .before in
     let p = entry t g .pre .1 in
-    arrives (p .0) (p .4) (p .3) (g .loop .inv) (omega (arith, e .if2 .left))
+    arrives (p .0 .ready) (p .0 .window) (p .0 .inside) (g .loop .inv) (omega (arith, e .if2 .left))
 
 pick-try-start-requires : (t : ℕ) → pick-lts.Need-try-start-requires (tries t) (pick-at t) pick.Post pick-Inv-loop pick-μ-loop
 pick-try-start-requires t c κs =
@@ -133,12 +133,12 @@ pick-try-start-requires t c κs =
     let b = entry t g in
     let p = b .pre .1 in (
       omega (arith, b .pre .0, g .loop .inv .turn .paid, e .if2 .left),
-      (may-try (p .0) (at t e) (p .4) (p .3) (g .loop .inv .begun) (e .before .if1 .taken) (p .2), p .1),
+      (may-try (p .0 .ready) (at t e) (p .0 .window) (p .0 .inside) (g .loop .inv .begun) (e .before .if1 .taken) (p .0 .first-is), p .1),
     )
 
 -- a start before the window's end is below the horizon
 near : (t : ℕ) (c : pick-lts.Then1 (tries t) (pick-at t) pick.Post pick-Inv-loop pick-μ-loop) → c .before .before .loop .s < entry t (c .before .before) .args .horizon
-near t c = omega (arith, c .if1 .taken, entry t (c .before .before) .pre .1 .4 .near)
+near t c = omega (arith, c .if1 .taken, entry t (c .before .before) .pre .1 .0 .window .near)
 
 -- after the call
 there : (t : ℕ) (f : pick-lts.After-try-start (tries t) (pick-at t) pick.Post pick-Inv-loop pick-μ-loop)
@@ -149,7 +149,7 @@ there : (t : ℕ) (f : pick-lts.After-try-start (tries t) (pick-at t) pick.Post 
 there t f =
     let e = f .before .before .before in
     let g = e .before .before .before in
-    turned (entry t g .pre .1 .0) (at t e) (near t (e .before)) (λ z. omega (arith, e .if2 .left)) (f .try-start .ensures .0) (f .try-start .ensures .1)
+    turned (entry t g .pre .1 .0 .ready) (at t e) (near t (e .before)) (λ z. omega (arith, e .if2 .left)) (f .try-start .ensures .0) (f .try-start .ensures .1)
 
 pick-enum-known-f : (t : ℕ) → pick-lts.Need-enum-known-f (tries t) (pick-at t) pick.Post pick-Inv-loop pick-μ-loop
 pick-enum-known-f t c = c .match .keys1
@@ -190,7 +190,7 @@ pick-next-free-requires-2 t c κs =
     let d = c .before in
     let i = turn t d in
     let p = entry t (i .before .before) .pre .1 in
-    (rows-of (p .0) (p .3) (p .2) (there t (d .before .before .before .before .before .before .before) .same), omega (arith, i .if1 .taken), omega (arith, p .4 .near, p .0 .near))
+    (rows-of (p .0 .ready) (p .0 .inside) (p .0 .first-is) (there t (d .before .before .before .before .before .before .before) .same), omega (arith, i .if1 .taken), omega (arith, p .0 .window .near, p .0 .ready .near))
 
 pick-loop-less : (t : ℕ) → pick-lts.Need-loop-less (tries t) (pick-at t) pick.Post pick-Inv-loop pick-μ-loop
 pick-loop-less t c = let i = turn t (c .before .before) in omega (arith, near t i, c .next-free2 .ensures .behind)
@@ -200,7 +200,7 @@ pick-loop-again t c =
     let d = c .before .before in
     let i = turn t d in
     let p = entry t (i .before .before) .pre .1 in
-    moves (p .0) (p .4) (p .3) (there t (d .before .before .before .before .before .before .before) .if-none _ (d .before .f2 .given .1)) (c .next-free2 .ensures) (omega (arith, i .before .before .loop .inv .begun))
+    moves (p .0 .ready) (p .0 .window) (p .0 .inside) (there t (d .before .before .before .before .before .before .before) .if-none _ (d .before .f2 .given .1)) (c .next-free2 .ensures) (omega (arith, i .before .before .loop .inv .begun))
 
 pick-sub-above : (t : ℕ) → pick-lts.Need-sub-above (tries t) (pick-at t) pick.Post pick-Inv-loop pick-μ-loop
 pick-sub-above t c = c .before .before .loop .inv .turn .within
@@ -215,7 +215,7 @@ pick-returns-4 : (t : ℕ) → pick-lts.Need-returns-4 (tries t) (pick-at t) pic
 pick-returns-4 t c =
     let g = c .before .before .before in
     let p = entry t g .pre .1 in
-    (breaks-above (p .0) (p .4) (p .3) (g .loop .inv) (c .before .if1 .left) (c .if3 .taken), g .loop .inv .turn .rows-same)
+    (breaks-above (p .0 .ready) (p .0 .window) (p .0 .inside) (g .loop .inv) (c .before .if1 .left) (c .if3 .taken), g .loop .inv .turn .rows-same)
 
 pick-same-length-9 : (t : ℕ) → pick-lts.Need-same-length-9 (tries t) (pick-at t) pick.Post pick-Inv-loop pick-μ-loop
 pick-same-length-9 t c = c .before .before .before .loop .inv .turn .same-length
@@ -227,7 +227,7 @@ pick-returns-5 : (t : ℕ) → pick-lts.Need-returns-5 (tries t) (pick-at t) pic
 pick-returns-5 t c =
     let g = c .before .before .before in
     let p = entry t g .pre .1 in
-    (leaves (p .0) (p .4) (p .3) (g .loop .inv) (c .before .if1 .left) (c .if3 .left), g .loop .inv .turn .rows-same)
+    (leaves (p .0 .ready) (p .0 .window) (p .0 .inside) (g .loop .inv) (c .before .if1 .left) (c .if3 .left), g .loop .inv .turn .rows-same)
 
 -- ---- try_start
 
@@ -363,7 +363,7 @@ try-start-pick-requires t c κs =
     let v = kept t (u .before) in
     let f = before t v in
     let w = v .before .before .before .before in
-    (omega (arith, first t f .pre .0), (deeper (first t f .pre .1 .0) (free t f) (v .reserve .ensures), first t f .pre .1 .1, next-first t u, further t (w .before .before), w .window-of .ensures))
+    (omega (arith, first t f .pre .0), (record { ready = deeper (first t f .pre .1 .0) (free t f) (v .reserve .ensures); inside = further t (w .before .before); first-is = next-first t u; window = w .window-of .ensures }, first t f .pre .1 .1))
 
 -- after the call: where the operation was reserved
 abbrev put : (t : ℕ) → try-start-lts.After-pick (calls t) (try-start-at t) try-start.Post → try-start-lts.After-reserve (calls t) (try-start-at t) try-start.Post

@@ -18,7 +18,7 @@ window-of-requires : tie.Need-window-of-requires
 window-of-requires c κs = search needs
 
 pick-requires : tie.Need-pick-requires
-pick-requires c κs = search needs
+pick-requires c κs = (record { ready = search needs; inside = search needs; first-is = search needs; window = search needs }, search needs)
 
 same-length : tie.Need-same-length
 same-length c = search needs

@@ -1,4 +1,4 @@
--- `access::delay` meets its contract: the dependence is read off its record, and the machine's 32 bits hold its delay. Assumes nothing.
+-- `loop_access::delay` meets its contract: the dependence is read off its record, and the machine's 32 bits hold its delay. Assumes nothing.
 use mathlib.Core.Path.{_∙_}
 use native.Mathlib.Omega.{arith}
 use mir.Syntax.{w32}

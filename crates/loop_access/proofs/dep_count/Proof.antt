@@ -1,4 +1,4 @@
--- `access::dep_count` meets its contract: an accepted file has its contents, and the loop its number of dependences. Assumes nothing.
+-- `loop_access::dep_count` meets its contract: an accepted file has its contents, and the loop its number of dependences. Assumes nothing.
 use native.Mathlib.Omega.{arith}
 use Rattle.model.proofs.File.{layout, deps-is}
 use Rattle.loop_access.proofs.dep_count.Statement.{statement}

@@ -1,4 +1,4 @@
--- `access::dep_start` meets its contract: the record of the dependence lies inside the file. Assumes nothing.
+-- `loop_access::dep_start` meets its contract: the record of the dependence lies inside the file. Assumes nothing.
 use native.Mathlib.Omega.{arith}
 use Rattle.loop_access.proofs.Records.{DepRead, dep-read}
 use Rattle.loop_access.proofs.dep_start.Statement.{statement}

@@ -1,4 +1,4 @@
--- `access::first_use` meets its contract. The loop's invariant: the sum is the number of uses of the operations before `o`, as the
+-- `loop_access::first_use` meets its contract. The loop's invariant: the sum is the number of uses of the operations before `o`, as the
 -- file counts it. The measure is what is left of `op`. Assumes nothing.
 use mathlib.Core.Path.{_≡_, _∙_}
 use Prim.Native.Nat.{_-_, _≤_}

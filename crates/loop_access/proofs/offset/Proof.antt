@@ -1,4 +1,4 @@
--- `access::offset` meets its contract: no use of the file has an offset. Assumes nothing.
+-- `loop_access::offset` meets its contract: no use of the file has an offset. Assumes nothing.
 use Rattle.loop_access.proofs.Records.{use-read}
 use Rattle.loop_access.proofs.offset.Statement.{statement}
 use Rattle.loop_access.proofs.offset.Tie as tie

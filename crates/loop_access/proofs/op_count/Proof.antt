@@ -1,4 +1,4 @@
--- `access::op_count` meets its contract: an accepted file has its contents, and the loop its number of operations. Assumes nothing.
+-- `loop_access::op_count` meets its contract: an accepted file has its contents, and the loop its number of operations. Assumes nothing.
 use native.Mathlib.Omega.{arith}
 use Rattle.model.proofs.File.{layout, size-is}
 use Rattle.loop_access.proofs.op_count.Statement.{statement}

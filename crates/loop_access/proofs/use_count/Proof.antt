@@ -1,4 +1,4 @@
--- `access::use_count` meets its contract: the operation is read off its record, which lies inside the file. Assumes nothing.
+-- `loop_access::use_count` meets its contract: the operation is read off its record, which lies inside the file. Assumes nothing.
 use native.Mathlib.Omega.{arith}
 use Rattle.loop_access.proofs.Records.{OpRead, op-read, uses-read}
 use Rattle.loop_access.proofs.use_count.Statement.{statement}

@@ -1,4 +1,4 @@
--- `access::use_total` meets its contract: an accepted file's USES has as many records as its loop has uses. Assumes nothing.
+-- `loop_access::use_total` meets its contract: an accepted file's USES has as many records as its loop has uses. Assumes nothing.
 use native.Mathlib.Omega.{arith}
 use mathlib.Core.Path.{ap, _∙_}
 use lib.ListN.{length}

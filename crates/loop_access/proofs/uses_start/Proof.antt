@@ -1,4 +1,4 @@
--- `access::uses_start` meets its contract: an accepted file has its contents. Assumes nothing.
+-- `loop_access::uses_start` meets its contract: an accepted file has its contents. Assumes nothing.
 use native.Mathlib.Omega.{arith}
 use Rattle.model.proofs.File.{layout}
 use Rattle.loop_access.proofs.uses_start.Statement.{statement}

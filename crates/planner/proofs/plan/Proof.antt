@@ -4,7 +4,7 @@ use native.Mathlib.Omega.{arith}
 use Rattle.loop_file.specs.Read.{readingOf}
 use Rattle.loop_file.proofs.Answers.{IsAccepted, read-accepted}
 use Rattle.search.proofs.Requests.{Passes, all-pass}
-use Rattle.planner.specs.Parts.{asRefused}
+use Rattle.planner.specs.Parts.{asPlanRefused}
 use Rattle.planner.proofs.Answers.{by-file, by-request, by-lower, all-passed, by-make}
 use Rattle.planner.proofs.plan.Statement.{statement}
 use Rattle.planner.proofs.plan.Tie as tie
@@ -27,7 +27,7 @@ refused-requires c κs = omega arith
 returns : tie.Need-returns
 returns c =
     let u = c .before .before in
-    by-file (u .before .before .read .ensures) (u .enum-told .given .1) (c .refused .ensures ∙ ap asRefused (c .before .unread .ensures))
+    by-file (u .before .before .read .ensures) (u .enum-told .given .1) (c .refused .ensures ∙ ap asPlanRefused (c .before .unread .ensures))
 
 -- ---- once the file is accepted
 

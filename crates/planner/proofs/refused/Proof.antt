@@ -1,7 +1,7 @@
 -- `refused` meets its contract, by the case of the check. Assumes nothing.
 use borrow.Author.Needs.{needs}
 use mathlib.Core.Path.{sym, ap}
-use Rattle.planner.specs.Parts.{asRefused}
+use Rattle.planner.specs.Parts.{asPlanRefused}
 use Rattle.planner.proofs.refused.Statement.{statement}
 use Rattle.planner.proofs.refused.Tie as tie
 
@@ -15,7 +15,7 @@ returns : tie.Need-returns
 returns c = search needs
 
 returns-2 : tie.Need-returns-2
-returns-2 c = sym (ap asRefused (c .before .c .given .1))
+returns-2 c = sym (ap asPlanRefused (c .before .c .given .1))
 
 pub refused-spec : {M : Type 1} → statement M
 refused-spec = tie.close (tie.spec enum-told enum-known-c returns returns-2)

@@ -2,7 +2,7 @@
 use mathlib.Core.Path.{refl, _∙_}
 use borrow.Author.Needs.{needs}
 use native.Mathlib.Omega.{arith}
-use Rattle.search.proofs.Attempts.{clears, room, Come, found-ranged, none-ranged, finds, ends, stops}
+use Rattle.search.proofs.Attempts.{clears, list-room, Come, found-ranged, none-ranged, finds, ends, stops}
 use Rattle.search.proofs.attempt.attempt.Statement.{statement}
 use Rattle.search.proofs.attempt.attempt.Tie as tie
 
@@ -39,7 +39,7 @@ abbrev sweeping : tie.After-kept → tie.After-sweep
 sweeping c = c .before .before .before .before .before .before
 
 write-list-requires : tie.Need-write-list-requires
-write-list-requires c κs = let s = sweeping c in room (s .sweep .last .1 .0) (s .sweep .result) _ (start (s .before) .pre) (search needs) (c .kept .ensures)
+write-list-requires c κs = let s = sweeping c in list-room (s .sweep .last .1 .0) (s .sweep .result) _ (start (s .before) .pre) (search needs) (c .kept .ensures)
 
 -- ---- once the list is written
 

@@ -1,4 +1,4 @@
--- `board::copy_file` meets its contract. The loop's invariant: the store is the first i bytes of the file, then the store at entry from byte i on, and as long as at entry
+-- `store::copy_file` meets its contract. The loop's invariant: the store is the first i bytes of the file, then the store at entry from byte i on, and as long as at entry
 -- (`set-next` for a turn). The measure is what is left of the file. Assumes nothing.
 use mathlib.Core.Path.{_≡_, refl, sym, ap, _∙_}
 use mathlib.Core.List.{List, _++_}

@@ -1,4 +1,4 @@
--- `attempt::settle` meets its contract. The loop's invariant: the starts and the rows are a board, and later rows are as they were. The measure is what is left of the steps. Assumes nothing.
+-- `attempt::put_all` meets its contract. The loop's invariant: the starts and the rows are a board, and later rows are as they were. The measure is what is left of the steps. Assumes nothing.
 use mathlib.Core.Bool.{true, false}
 use mathlib.Core.Path.{_≡_, refl}
 use Prim.Native.Nat.{ℕ}
@@ -7,8 +7,8 @@ use lib.ListN.{length}
 use Rattle.board.proofs.Boards.{few-operations}
 use Rattle.iterative.specs.Placed.{Kept}
 use Rattle.iterative.proofs.Schedules.{kept-again, kept-length}
-use Rattle.iterative.proofs.attempt.settle.Statement.{statement}
-use Rattle.iterative.proofs.attempt.settle.Tie as tie
+use Rattle.iterative.proofs.attempt.put_all.Statement.{statement}
+use Rattle.iterative.proofs.attempt.put_all.Tie as tie
 
 abbrev Inv-loop : tie.InvT-loop
 Inv-loop file n interval horizon order starts₀ rows₀ ranks again₀ left₀ starts rows again left = Kept file interval horizon rows₀ starts rows
@@ -80,8 +80,8 @@ loop-less c = omega arith
 loop-again : tie.Need-loop-again Inv-loop μ-loop
 loop-again c = let w = c .before .before .before in kept-again (turn w .loop .inv) (w .step .ensures)
 
-pub settle-spec : {M : Type 1} → statement M
-settle-spec =
+pub put-all-spec : {M : Type 1} → statement M
+put-all-spec =
     tie.close
     (tie.spec
     Inv-loop
