@@ -13,10 +13,11 @@ ghost use Rattle.model.specs.File.{loopOf};
 ghost use Rattle.board.specs.Board.{Board};
 ghost use Rattle.iterative.specs.Placed.{IntervalReady, Kept, PutAll, AttemptLeaves};
 
-// One step: puts `op`, and takes out what is in its way; whether there is a start for it below the horizon. again[i] is the first start after the last one that operation i had, 0 at first.
+// One step: puts `op`, on the grid or at any start, and takes out what is in its way; whether there is a start for it below the horizon. again[i] is the first start after the last one that operation i had, 0 at first.
 fn step(
     file: &[u8],
     op: usize,
+    gridded: bool,
     interval: usize,
     horizon: usize,
     again: &mut [u16; 64],
@@ -26,7 +27,16 @@ fn step(
     requires { ⌜ Board (now file) interval horizon (now starts) (now rows) × (op < size (loopOf (now file))) ⌝ }
     ensures { λ _. ⌜ Kept (now (file .entry)) interval horizon (now (rows .entry)) (now (starts .exit)) (now (rows .exit)) ⌝ }
 {
-    let start = choose_start(file, op, wide(again[op]), interval, horizon, starts, rows);
+    let start = choose_start(
+        file,
+        op,
+        wide(again[op]),
+        gridded,
+        interval,
+        horizon,
+        starts,
+        rows,
+    );
     if horizon <= start {
         return false;
     }
@@ -35,7 +45,7 @@ fn step(
     true
 }
 
-// Steps by one of the orders of priority, 10 an operation at most; whether all operations are placed.
+// Steps in the order of an attempt, 10 an operation at most; whether all operations are placed. The order also says whether they are put on the grid: four orders are not, the next four are, and so on.
 fn put_all(
     file: &[u8],
     n: usize,
@@ -50,6 +60,7 @@ fn put_all(
 {
     let mut ranks = [0u32; 64];
     rank_all(file, n, interval, order, &mut ranks);
+    let gridded = order / 4 % 2 == 1;
     let mut again = [0u16; 64];
     let mut left = 10 * n;
     loop {
@@ -61,13 +72,22 @@ fn put_all(
             return false;
         }
         left = left - 1;
-        if !step(file, op, interval, horizon, &mut again, starts, rows) {
+        if !step(
+            file,
+            op,
+            gridded,
+            interval,
+            horizon,
+            &mut again,
+            starts,
+            rows,
+        ) {
             return false;
         }
     }
 }
 
-// An attempt by one of the orders of priority, from no operation placed on; whether all are placed in the end.
+// An attempt in one order, from no operation placed on; whether all are placed in the end.
 fn attempt(
     file: &[u8],
     n: usize,
@@ -85,12 +105,13 @@ fn attempt(
     put_all(file, n, interval, horizon, order, starts, rows)
 }
 
-// Attempts by each of the four orders of priority, until one succeeds; whether one does.
+// Attempts in the first orders, so many as `tries` says, until one succeeds; whether one does.
 pub fn attempt_all(
     file: &[u8],
     n: usize,
     interval: usize,
     horizon: usize,
+    tries: usize,
     starts: &mut [u16; 64],
     rows: &mut [u64],
 ) -> bool
@@ -98,7 +119,7 @@ pub fn attempt_all(
     ensures { λ r. ⌜ AttemptLeaves (now (file .entry)) n interval horizon (now (starts .entry)) (now (rows .entry)) (now (starts .exit)) (now (rows .exit)) r ⌝ }
 {
     let mut order = 0;
-    while order < 4 {
+    while order < tries {
         if attempt(file, n, interval, horizon, order, starts, rows) {
             return true;
         }

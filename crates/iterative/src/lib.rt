@@ -30,9 +30,14 @@ fn last_of(least: usize, cap: usize, horizon: usize) -> usize
     cap
 }
 
-// The interval at which every operation got a start, or 0 where none of those tried had one. Tried are the intervals from `least` to the cap or, if that is less, to the larger of `least` and horizon + 63; each in four
-// orders of priority, and in each with 10 steps an operation, a step for each time that an operation is put. What the starts are where none is found, and what the first 4,096 rows are, is left free: the caller clears the
-// rows.
+// How many attempts are made at the first interval, and how many at each later one. At the first it pays to try harder: where that is the larger of the two bounds, a schedule is the smallest there is.
+const FIRST_TRIES: usize = 64;
+
+const LATER_TRIES: usize = 8;
+
+// The interval at which every operation got a start, or 0 where none of those tried had one. Tried are the intervals from `least` to the cap or, if that is less, to the larger of `least` and horizon + 63; the first in 64
+// orders and the others in 8, and in each with 10 steps an operation, a step for each time that an operation is put. What the starts are where none is found, and what the first 4,096 rows are, is left free: the caller clears
+// the rows.
 pub fn place_all(
     file: &[u8],
     n: usize,
@@ -46,11 +51,13 @@ pub fn place_all(
     ensures { λ r. ⌜ Placed (now (file .entry)) n least cap horizon (now (starts .entry)) (now (rows .entry)) (now (starts .exit)) (now (rows .exit)) r ⌝ }
 {
     let last = last_of(least, cap, horizon);
+    let mut tries = FIRST_TRIES;
     let mut ii = least;
     while ii <= last {
-        if attempt_all(file, n, ii, horizon, starts, rows) {
+        if attempt_all(file, n, ii, horizon, tries, starts, rows) {
             return ii;
         }
+        tries = LATER_TRIES;
         ii = ii + 1;
     }
     0

@@ -93,37 +93,65 @@ fn held(file: &[u8], op: usize) -> usize
     sum
 }
 
-// The rank of an operation from which the longest path is `high`, to which it is `early`, and which holds slots for `long` cycles. By order 0 the longest path from it counts first, and then the cycles; by order 1 the
-// longest path through it, and then the earlier operation; by order 2 the cycles, and then the path from it; by order 3 that path alone, as Rau has it.
-fn rank(order: usize, high: usize, early: usize, long: usize) -> u32 {
+// The rank of an operation from which the longest path is `high`, to which it is `early`, and which holds slots for `long` cycles. By priority 0 the longest path from it counts first, and then the cycles; by 1 the
+// longest path through it, and then the earlier operation; by 2 the cycles, and then the path from it; by 3 that path alone, as Rau has it.
+fn rank(priority: usize, high: usize, early: usize, long: usize) -> u32 {
     let h = capped(high);
     let e = capped(early);
     let l = capped(long);
-    if order == 0 {
+    if priority == 0 {
         return (h * 4096 + l) as u32;
     }
-    if order == 1 {
+    if priority == 1 {
         return ((h + e) * 4096 + (4095 - e)) as u32;
     }
-    if order == 2 {
+    if priority == 2 {
         return (l * 4096 + h) as u32;
     }
     h as u32
 }
 
-// The ranks of all n operations at an interval, by one of the orders 0 to 3.
+// By how many cycles, less one, a path is taken to be longer than it is: by none in the first eight orders, then by fewer than 2, 4, 8 and 16 in eight orders each, and again.
+fn spread(order: usize) -> usize
+    ensures { λ r. ⌜ (1 ≤ r) × (r ≤ 16) ⌝ }
+{
+    let level = order / 8;
+    if level == 0 {
+        return 1;
+    }
+    let turn = level % 4;
+    match turn {
+        1 => 2,
+        2 => 4,
+        3 => 8,
+        _ => 16,
+    }
+}
+
+// How much longer the path from operation o is taken to be than it is. A cube modulo a prime is as good as a drawn number here: what counts is that orders differ.
+fn noise(order: usize, o: usize) -> usize
+    ensures { λ r. ⌜ r < 16 ⌝ }
+{
+    let z = 64 * (order % 64) + o % 64 + 1;
+    z * z * z % 65537 % spread(order)
+}
+
+// The ranks of all n operations at an interval, in an order: one of four priorities in turn, and from the eighth order on with paths that are taken to be some cycles longer than they are, so that operations of like rank change
+// places.
 pub fn rank_all(file: &[u8], n: usize, interval: usize, order: usize, ranks: &mut [u32; 64])
     requires { ⌜ Accepted (now file) × (interval ≤ 4096) × (n ≡ size (loopOf (now file))) ⌝ }
 {
+    let priority = order % 4;
     let mut high = [0u16; 64];
     paths(file, n, interval, false, &mut high);
     let mut early = [0u16; 64];
-    if order == 1 {
+    if priority == 1 {
         paths(file, n, interval, true, &mut early);
     }
     let mut o = 0;
     while o < n {
-        ranks[o] = rank(order, wide(high[o]), wide(early[o]), held(file, o));
+        let far = capped(wide(high[o])) + noise(order, o);
+        ranks[o] = rank(priority, far, wide(early[o]), held(file, o));
         o = o + 1;
     }
 }

@@ -8,10 +8,10 @@ use Rattle.iterative.proofs.place_all.Statement.{statement}
 use Rattle.iterative.proofs.place_all.Tie as tie
 
 abbrev Inv-loop : tie.InvT-loop
-Inv-loop file n least cap horizon starts₀ rows₀ last ii₀ starts rows ii = (least ≤ ii) × Untouched starts₀ rows₀ starts rows
+Inv-loop file n least cap horizon starts₀ rows₀ last tries₀ ii₀ starts rows tries ii = (least ≤ ii) × Untouched starts₀ rows₀ starts rows
 
 abbrev μ-loop : tie.MeasureT-loop
-μ-loop file n least cap horizon starts₀ rows₀ last ii₀ starts rows ii = suc last - ii
+μ-loop file n least cap horizon starts₀ rows₀ last tries₀ ii₀ starts rows tries ii = suc last - ii
 
 last-of-requires : tie.Need-last-of-requires Inv-loop μ-loop
 last-of-requires c κs = c .before .before .pre .far
@@ -26,7 +26,7 @@ attempt-all-requires c κs =
 
 -- after the attempts at an interval
 left-by : (c : tie.After-attempt-all Inv-loop μ-loop) → let s = c .before .before .before .before .before .before .before .before .args in
-    Untouched (s .starts .now) (s .rows .now) (c .attempt-all .last .1 .1 .1 .1 .0) (c .attempt-all .last .1 .1 .1 .1 .1 .0)
+    Untouched (s .starts .now) (s .rows .now) (c .attempt-all .last .1 .1 .1 .1 .1 .0) (c .attempt-all .last .1 .1 .1 .1 .1 .1 .0)
 left-by c = untouched-again (c .before .before .before .before .loop .inv .1) (c .attempt-all .ensures .untouched)
 
 same-length : tie.Need-same-length Inv-loop μ-loop

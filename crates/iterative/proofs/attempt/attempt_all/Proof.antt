@@ -8,10 +8,10 @@ use Rattle.iterative.proofs.attempt.attempt_all.Statement.{statement}
 use Rattle.iterative.proofs.attempt.attempt_all.Tie as tie
 
 abbrev Inv-loop : tie.InvT-loop
-Inv-loop file n interval horizon starts₀ rows₀ order₀ starts rows order = (order ≤ 4) × Untouched starts₀ rows₀ starts rows
+Inv-loop file n interval horizon tries starts₀ rows₀ order₀ starts rows order = (order ≤ tries) × Untouched starts₀ rows₀ starts rows
 
 abbrev μ-loop : tie.MeasureT-loop
-μ-loop file n interval horizon starts₀ rows₀ order₀ starts rows order = 4 - order
+μ-loop file n interval horizon tries starts₀ rows₀ order₀ starts rows order = tries - order
 
 loop-holds : tie.Need-loop-holds Inv-loop μ-loop
 loop-holds c = (omega arith, untouched _ _)

@@ -11,10 +11,10 @@ use Rattle.iterative.proofs.attempt.put_all.Statement.{statement}
 use Rattle.iterative.proofs.attempt.put_all.Tie as tie
 
 abbrev Inv-loop : tie.InvT-loop
-Inv-loop file n interval horizon order starts₀ rows₀ ranks again₀ left₀ starts rows again left = Kept file interval horizon rows₀ starts rows
+Inv-loop file n interval horizon order starts₀ rows₀ ranks gridded again₀ left₀ starts rows again left = Kept file interval horizon rows₀ starts rows
 
 abbrev μ-loop : tie.MeasureT-loop
-μ-loop file n interval horizon order starts₀ rows₀ ranks again₀ left₀ starts rows again left = left
+μ-loop file n interval horizon order starts₀ rows₀ ranks gridded again₀ left₀ starts rows again left = left
 
 rank-all-requires : tie.Need-rank-all-requires Inv-loop μ-loop
 rank-all-requires c κs = let p = c .before .before .before .pre in (p .0 .accepted, p .0 .numbers .short, p .1)

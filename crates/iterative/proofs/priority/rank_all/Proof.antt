@@ -6,10 +6,10 @@ use Rattle.iterative.proofs.priority.rank_all.Statement.{statement}
 use Rattle.iterative.proofs.priority.rank_all.Tie as tie
 
 abbrev Inv-loop : tie.InvT-loop
-Inv-loop file n interval order ranks₀ high early o₀ ranks o = (o ≤ n) × (n ≤ 64)
+Inv-loop file n interval order ranks₀ priority high early o₀ ranks o = (o ≤ n) × (n ≤ 64)
 
 abbrev μ-loop : tie.MeasureT-loop
-μ-loop file n interval order ranks₀ high early o₀ ranks o = n - o
+μ-loop file n interval order ranks₀ priority high early o₀ ranks o = n - o
 
 paths-requires : tie.Need-paths-requires Inv-loop μ-loop
 paths-requires c κs = let p = c .before .before .pre in (p .0, p .1)
@@ -29,6 +29,15 @@ array-read-wide c = omega arith
 wide-requires : tie.Need-wide-requires Inv-loop μ-loop
 wide-requires c κs = omega arith
 
+capped-requires : tie.Need-capped-requires Inv-loop μ-loop
+capped-requires c κs = omega arith
+
+noise-requires : tie.Need-noise-requires Inv-loop μ-loop
+noise-requires c κs = tt
+
+add-far : tie.Need-add-far Inv-loop μ-loop
+add-far c = omega (arith, c .noise .ensures, c .before .capped .ensures)
+
 mul-wide-2 : tie.Need-mul-wide-2 Inv-loop μ-loop
 mul-wide-2 c = omega arith
 
@@ -39,7 +48,7 @@ wide-requires-2 : tie.Need-wide-requires-2 Inv-loop μ-loop
 wide-requires-2 c κs = omega arith
 
 held-requires : tie.Need-held-requires Inv-loop μ-loop
-held-requires c κs = let p = c .before .before .before .before .before .before .before .before .pre in (p .0, omega arith)
+held-requires c κs = let p = c .before .before .before .before .before .before .before .before .before .before .pre in (p .0, omega arith)
 
 rank-requires : tie.Need-rank-requires Inv-loop μ-loop
 rank-requires c κs = omega arith
@@ -74,6 +83,9 @@ rank-all-spec =
     mul-wide
     array-read-wide
     wide-requires
+    capped-requires
+    noise-requires
+    add-far
     mul-wide-2
     array-read-wide-2
     wide-requires-2
