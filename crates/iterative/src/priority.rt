@@ -111,7 +111,7 @@ fn rank(priority: usize, high: usize, early: usize, long: usize) -> u32 {
     h as u32
 }
 
-// By how many cycles, less one, a path is taken to be longer than it is: by none in the first eight orders, then by fewer than 2, 4, 8 and 16 in eight orders each, and again.
+// How far an order spreads the lengths of paths: its noise is below this number. In the first eight orders it is 1, so that there is none, then 2, 4, 8 and 16 in eight orders each, and again.
 fn spread(order: usize) -> usize
     ensures { λ r. ⌜ (1 ≤ r) × (r ≤ 16) ⌝ }
 {
