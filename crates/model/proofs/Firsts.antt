@@ -2,13 +2,22 @@
 use mathlib.Core.Path.{_≡_, refl, sym, ap, _∙_}
 use mathlib.Core.Bool.{Bool, true, false, cond, xor}
 use mathlib.Core.List.{List, [], _∷_, _++_, map, flatMap}
-use mathlib.Core.Option.{none, some}
+use mathlib.Core.Option.{Option, none, some}
 use Prim.Native.Nat.{ℕ, zero, suc, _+_, _-_, _<_}
 use native.Mathlib.Nat.{le-of-suc-le-suc, not-suc-le-zero}
+use native.Mathlib.Decide.{decLt}
 use native.Mathlib.Omega.{arith}
 use lib.ListN.{length, getD}
 use Rattle.model.specs.Lists.{upFrom, anyOf, first}
 use Rattle.model.proofs.Lists.{or-false-left, or-false-right, any-map, any-flatMap, any-at, at-any, any-row, row-any, row-around, first-none, none-first, first-later, flatMap-append}
+
+-- y stands in the list, passes, and none before it does; d stands past the list's end
+pub record IsFirst {A : Type 0} (p : A → Bool) (xs : List A) (d y : A) : Type 0 where
+  pub at : ℕ
+  pub inside : at < length xs
+  pub is : getD xs at d ≡ y
+  pub passes : p y ≡ true
+  pub earlier : (j : ℕ) → j < at → p (getD xs j d) ≡ false
 
 module _ {A : Type 0} where
   -- what stands within a list, whatever stands past its end
@@ -24,6 +33,24 @@ module _ {A : Type 0} where
   first-at p [] d i l h e = absurd (not-suc-le-zero l)
   first-at p (x ∷ xs) d zero l h e = rw e
   first-at p (x ∷ xs) d (suc i) l h e = rw (h 0 (omega arith)) (first-at p xs d i (le-of-suc-le-suc l) (λ j m. h (suc j) (omega arith)) e)
+
+  -- what is first passes, and none before it does
+  pub first-is : (p : A → Bool) (xs : List A) (d y : A) → first p xs ≡ some y → IsFirst p xs d y
+  unfolding first
+  first-is p [] d y e = let z : _≡_ {A = ℕ} 0 1 = cc in absurd (omega arith)
+  first-is p (x ∷ xs) d y e = pick (p x) refl e (first-is p xs d y)
+    where
+      before : p x ≡ false → (at j : ℕ) → j < suc at → ((j : ℕ) → j < at → p (getD xs j d) ≡ false) → p (getD (x ∷ xs) j d) ≡ false
+      before f at zero l h = f
+      before f at (suc j) l h = h j (le-of-suc-le-suc l)
+
+      pick : (b : Bool) → p x ≡ b → cond b (some x) (first p xs) ≡ some y → (first p xs ≡ some y → IsFirst p xs d y) → IsFirst p (x ∷ xs) d y
+      pick true f q ih =
+          let g : x ≡ y = cc in
+          record { at = 0; inside = omega arith; is = g; passes = ap p (sym g) ∙ f; earlier = λ j l. absurd (not-suc-le-zero l) }
+      pick false f q ih =
+          let r = ih q in
+          record { at = suc (r .at); inside = omega (arith, r .inside); is = r .is; passes = r .passes; earlier = λ j l. before f (r .at) j l (r .earlier) }
 
   -- none passes
   pub first-not : (p : A → Bool) (xs : List A) (d : A) → ((i : ℕ) → i < length xs → p (getD xs i d) ≡ false) → first p xs ≡ none
@@ -103,12 +130,58 @@ module _ {A : Type 0} (q : ℕ → A → Bool) (xs : List A) where
       ∙ first-later passes (flatMap paired (upFrom 0 (k - 0))) (flatMap paired (k ∷ rest)) (none-first passes (flatMap paired (upFrom 0 (k - 0))) (grid-not (k - 0) (λ j m. h j (omega arith))))
       ∙ first-early passes (paired k) (flatMap paired rest) (k, x) (first-map passes (λ y. (k, y)) xs x e)
 
+-- x is the first of the list that passes with k, a number below n, and none passes with a smaller one
+pub record GridFirst {A : Type 0} (q : ℕ → A → Bool) (xs : List A) (d : A) (n k : ℕ) (x : A) : Type 0 where
+  pub below : k < n
+  pub here : IsFirst (q k) xs d x
+  pub smaller : (c j : ℕ) → c < k → j < length xs → q c (getD xs j d) ≡ false
+
 module _ {A : Type 0} (q : ℕ → A → Bool) (xs : List A) (d : A) (n : ℕ) where
   -- where nothing is found, no number passes with an element
   pub none-grid : first (passes q xs) (flatMap (paired q xs) (upFrom 0 n)) ≡ none → (k j : ℕ) → k < n → j < length xs → q k (getD xs j d) ≡ false
   none-grid e k j l m =
       let all : anyOf (λ c. anyOf (passes q xs) (paired q xs c)) (upFrom 0 n) ≡ false = sym (any-flatMap (passes q xs) (paired q xs) (upFrom 0 n)) ∙ none-first (passes q xs) _ e in
       any-at (q k) xs j d (sym (any-map (passes q xs) (λ x. (k, x)) xs) ∙ any-row _ 0 n k all (omega arith) (omega arith)) m
+
+  -- where (k, x) is found from number a on, and nothing passes with a smaller one
+  grid-from : (k : ℕ) (x : A) (a m : ℕ) → first (passes q xs) (flatMap (paired q xs) (upFrom a m)) ≡ some (k, x) → ((c : ℕ) → c < a → first (q c) xs ≡ none) → GridFirst q xs d (a + m) k x
+  unfolding upFrom flatMap first
+  grid-from k x a zero e h = let z : _≡_ {A = ℕ} 0 1 = cc in absurd (omega arith)
+  grid-from k x a (suc m) e h = pick (first (q a) xs) refl (grid-from k x (suc a) m)
+    where
+      rest : List (ℕ × A)
+      rest = flatMap (paired q xs) (upFrom (suc a) m)
+
+      found : (y : A) → first (q a) xs ≡ some y → _≡_ {A = Option (ℕ × A)} (some (a, y)) (some (k, x))
+      found y f = sym (first-early (passes q xs) (paired q xs a) rest (a, y) (first-map (passes q xs) (λ v. (a, v)) xs y f)) ∙ e
+
+      later : first (q a) xs ≡ none → first (passes q xs) rest ≡ some (k, x)
+      later f = sym (first-later (passes q xs) (paired q xs a) rest (any-map (passes q xs) (λ v. (a, v)) xs ∙ none-first (q a) xs f)) ∙ e
+
+      more : first (q a) xs ≡ none → (c : ℕ) → c < suc a → Dec (c < a) → first (q c) xs ≡ none
+      more f c l (yes m) = h c m
+      more f c l (no m) = let z : c ≡ a = omega arith in rw z f
+
+      pick : (o : Option A) → first (q a) xs ≡ o
+          → (first (passes q xs) rest ≡ some (k, x) → ((c : ℕ) → c < suc a → first (q c) xs ≡ none) → GridFirst q xs d (suc a + m) k x)
+          → GridFirst q xs d (a + suc m) k x
+      pick (some y) f ih =
+          let g = found y f in
+          let same : _≡_ {A = ℕ × A} (a, y) (k, x) = cc in
+          let i : a ≡ k = ap (λ (p : ℕ × A). p .0) same in
+          let s : y ≡ x = ap (λ (p : ℕ × A). p .1) same in
+          record {
+            below = omega arith;
+            here = first-is (q k) xs d x (rw (← i, ← s) f);
+            smaller = λ c j l m. any-at (q c) xs j d (none-first (q c) xs (h c (omega arith))) m;
+          }
+      pick none f ih =
+          let r = ih (later f) (λ c l. more f c l (decLt c a)) in
+          record { below = omega (arith, r .below); here = r .here; smaller = r .smaller }
+
+  -- where (k, x) is found, x is the first that passes with k, and none passes with a smaller number
+  pub grid-is : (k : ℕ) (x : A) → first (passes q xs) (flatMap (paired q xs) (upFrom 0 n)) ≡ some (k, x) → GridFirst q xs d n k x
+  grid-is k x e = let r = grid-from k x 0 n e (λ c l. absurd (not-suc-le-zero l)) in record { below = omega (arith, r .below); here = r .here; smaller = r .smaller }
 
   -- and two tests that agree on all of them find the same
   pub grid-same : (r : ℕ → A → Bool) → ((k j : ℕ) → k < n → j < length xs → q k (getD xs j d) ≡ r k (getD xs j d))

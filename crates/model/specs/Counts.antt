@@ -1,8 +1,8 @@
 -- How often each slot is used in each row, against a capacity for each slot (document 01: every slot holds one operation per cycle). Assumes nothing.
-use mathlib.Core.Bool.{Bool, not, _&&_}
+use mathlib.Core.Bool.{Bool, not, cond, _&&_}
 use mathlib.Core.List.{List, map, flatMap}
 use mathlib.Core.Option.{Option}
-use Prim.Native.Nat.{ℕ, _+_, _-_, _%_}
+use Prim.Native.Nat.{ℕ, _+_, _-_, _*_, _%_}
 use lib.Dec.{eqb, leb, ltb}
 use Rattle.model.specs.Lists.{upFrom, anyOf, first, countIf}
 use Rattle.model.specs.Loop.{Use, Op, Loop, opAt}
@@ -63,11 +63,15 @@ fitsWithin cap l ii f o t = not (anyOf (breaks ii f o t) (l .deps)) && roomFor c
 abbrev pub cyclesIn : (ii x r n : ℕ) → ℕ
 cyclesIn ii x r n = countIf (λ j. eqb r ((x + j) % ii)) (upFrom 0 n)
 
--- use v of an operation started at t covers in cycle k a cell without room: u and the operation's own earlier cycles, which of this slot are those of v, have reached its capacity
-abbrev pub takenAt : Capacity → Usage → (ii t k : ℕ) → Use → Bool
-takenAt cap u ii t k v =
-    covers k v && leb (cap (v .slot)) (u (v .slot) ((t + k) % ii) + cyclesIn ii (t + v .offset) ((t + k) % ii) (k - v .offset))
+-- use v of an operation started at t covers in cycle k a cell without room: u and, where `own` says that they count, the operation's own earlier cycles have reached its capacity. (Its own of this slot are those of v.)
+abbrev pub takenAt : Capacity → Usage → (own : Bool) → (ii t k : ℕ) → Use → Bool
+takenAt cap u own ii t k v =
+    covers k v && leb (cap (v .slot)) (u (v .slot) ((t + k) % ii) + cond own (cyclesIn ii (t + v .offset) ((t + k) % ii) (k - v .offset)) 0)
 
 -- the first cycle of the footprint, and in it the use of the lowest slot, that does so
-unfoldable pub firstTaken : Capacity → Usage → ℕ → Op → ℕ → Option (ℕ × Use)
-firstTaken cap u ii p t = first (λ q. takenAt cap u ii t (q .0) (q .1)) (flatMap (λ k. map (λ v. (k, v)) (p .uses)) (upFrom 0 16))
+unfoldable pub firstTaken : Capacity → Usage → (own : Bool) → ℕ → Op → ℕ → Option (ℕ × Use)
+firstTaken cap u own ii p t = first (λ q. takenAt cap u own ii t (q .0) (q .1)) (flatMap (λ k. map (λ v. (k, v)) (p .uses)) (upFrom 0 16))
+
+-- the place as one number: 32 times the cycle, and the slot, which is below 32
+abbrev pub placeNumber : ℕ × Use → ℕ
+placeNumber q = 32 * q .0 + q .1 .slot

@@ -1,6 +1,6 @@
 -- The first taken place of the conflict test is the model's at capacity 1, where the rows are the table of some cells. Assumes nothing.
 use mathlib.Core.Path.{_≡_, sym, ap, _∙_}
-use mathlib.Core.Bool.{Bool, _&&_, _||_}
+use mathlib.Core.Bool.{Bool, true, _&&_, _||_}
 use mathlib.Core.List.{List}
 use Prim.Native.Nat.{ℕ, zero, suc, _+_, _-_, _%_, _≤_, _<_}
 use native.Mathlib.Decide.{decLe}
@@ -22,7 +22,7 @@ use Rattle.reservation.specs.Place.{metAt, firstMet}
 
 module _ {base : ℕ} (wide : 2 ≤ base) (ii : ℕ) (cells : List Cell) (rows : List ℕ) (t : IsTable base ii cells rows) (d : Digits 2 cells) (p : Op) (ok : OpOk p) (pos : 1 ≤ ii) (s : ℕ) where
   -- a use meets a taken cell exactly where the cell has no room beside the table's and the use's own earlier ones
-  taken-bit : (k j : ℕ) → j < length (p .uses) → counts.takenAt single (λ a r. countOf a r cells) ii s k (useAt p j) ≡ metAt base ii rows s k (useAt p j)
+  taken-bit : (k j : ℕ) → j < length (p .uses) → counts.takenAt single (λ a r. countOf a r cells) true ii s k (useAt p j) ≡ metAt base ii rows s k (useAt p j)
   taken-bit k j l = pick (decLe (v .offset) k)
     where
       v : Use
@@ -45,7 +45,7 @@ module _ {base : ℕ} (wide : 2 ≤ base) (ii : ℕ) (cells : List Cell) (rows :
           ∙ same-true (leb ii (k - v .offset)) (leb (v .offset + ii) k)
           (λ q. le-leb (v .offset + ii) k (omega (arith, leb-true ii (k - v .offset) q))) (λ q. le-leb ii (k - v .offset) (omega (arith, leb-true (v .offset + ii) k q)))
 
-      pick : Dec (v .offset ≤ k) → counts.takenAt single (λ a r. countOf a r cells) ii s k (useAt p j) ≡ metAt base ii rows s k (useAt p j)
+      pick : Dec (v .offset ≤ k) → counts.takenAt single (λ a r. countOf a r cells) true ii s k (useAt p j) ≡ metAt base ii rows s k (useAt p j)
       pick (yes a) =
           let n : bit ≡ countOf (v .slot) ((s + k) % ii) cells = digit-count base ii (v .slot) ((s + k) % ii) cells rows t (λ a r. omega (arith, d a r, wide)) (mod-lt (s + k) pos) (ok .each j l .slot-low) (ok .each j l .slot-high) in
           ap (λ (b : Bool). covers k v && b)
@@ -53,6 +53,6 @@ module _ {base : ℕ} (wide : 2 ≤ base) (ii : ℕ) (cells : List Cell) (rows :
       pick (no a) = rw (lt-leb (v .offset) k (omega arith))
 
   -- so both find the same first place
-  pub taken-same : counts.firstTaken single (λ a r. countOf a r cells) ii p s ≡ firstMet base ii rows s (p .uses)
+  pub taken-same : counts.firstTaken single (λ a r. countOf a r cells) true ii p s ≡ firstMet base ii rows s (p .uses)
   unfolding firstMet counts.firstTaken
   taken-same = grid-same _ (p .uses) noUse 16 (metAt base ii rows s) (λ k j l m. taken-bit k j m)
