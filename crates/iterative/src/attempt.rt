@@ -1,5 +1,6 @@
 // Attempts at one interval: operations are put and displaced until all are placed. Whatever is put where, the rows stay the table of the starts, and the starts legal. Internal: asks for an accepted file and for numbers
 // and lengths in range.
+use crate::priority::paths;
 use crate::priority::pick;
 use crate::priority::rank_all;
 use crate::timing::choose_start;
@@ -52,6 +53,8 @@ fn put_all(
     interval: usize,
     horizon: usize,
     order: usize,
+    high: &[u16; 64],
+    early: &[u16; 64],
     starts: &mut [u16; 64],
     rows: &mut [u64],
 ) -> bool
@@ -59,7 +62,7 @@ fn put_all(
     ensures { λ r. ⌜ PutAll (now (file .entry)) n interval horizon (now (rows .entry)) (now (starts .exit)) (now (rows .exit)) r ⌝ }
 {
     let mut ranks = [0u32; 64];
-    rank_all(file, n, interval, order, &mut ranks);
+    rank_all(file, n, order, high, early, &mut ranks);
     let gridded = order / 4 % 2 == 1;
     let mut again = [0u16; 64];
     let mut left = 10 * n;
@@ -94,6 +97,8 @@ fn attempt(
     interval: usize,
     horizon: usize,
     order: usize,
+    high: &[u16; 64],
+    early: &[u16; 64],
     starts: &mut [u16; 64],
     rows: &mut [u64],
 ) -> bool
@@ -102,10 +107,10 @@ fn attempt(
 {
     clear_rows(rows, interval);
     *starts = [65535u16; 64];
-    put_all(file, n, interval, horizon, order, starts, rows)
+    put_all(file, n, interval, horizon, order, high, early, starts, rows)
 }
 
-// Attempts in the first orders, so many as `tries` says, until one succeeds; whether one does.
+// Attempts in the first orders, so many as `tries` says, until one succeeds; whether one does. The paths that ranks go by are the same in all of them.
 pub fn attempt_all(
     file: &[u8],
     n: usize,
@@ -118,9 +123,23 @@ pub fn attempt_all(
     requires { ⌜ IntervalReady (now file) n interval horizon (now starts) (now rows) ⌝ }
     ensures { λ r. ⌜ AttemptLeaves (now (file .entry)) n interval horizon (now (starts .entry)) (now (rows .entry)) (now (starts .exit)) (now (rows .exit)) r ⌝ }
 {
+    let mut high = [0u16; 64];
+    paths(file, n, interval, false, &mut high);
+    let mut early = [0u16; 64];
+    paths(file, n, interval, true, &mut early);
     let mut order = 0;
     while order < tries {
-        if attempt(file, n, interval, horizon, order, starts, rows) {
+        if attempt(
+            file,
+            n,
+            interval,
+            horizon,
+            order,
+            &high,
+            &early,
+            starts,
+            rows,
+        ) {
             return true;
         }
         order = order + 1;

@@ -65,7 +65,7 @@ fn round(file: &[u8], interval: usize, forward: bool, lengths: &mut [u16; 64]) -
 }
 
 // The lengths of the longest paths of dependences from each operation or, going forward, to it, by rounds: one for each operation at most.
-fn paths(file: &[u8], n: usize, interval: usize, forward: bool, lengths: &mut [u16; 64])
+pub fn paths(file: &[u8], n: usize, interval: usize, forward: bool, lengths: &mut [u16; 64])
     requires { ⌜ Accepted (now file) × (interval ≤ 4096) ⌝ }
 {
     let mut r = 0;
@@ -136,18 +136,19 @@ fn noise(order: usize, o: usize) -> usize
     z * z * z % 65537 % spread(order)
 }
 
-// The ranks of all n operations at an interval, in an order: one of four priorities in turn, and from the eighth order on with paths that are taken to be some cycles longer than they are, so that operations of like rank change
-// places.
-pub fn rank_all(file: &[u8], n: usize, interval: usize, order: usize, ranks: &mut [u32; 64])
-    requires { ⌜ Accepted (now file) × (interval ≤ 4096) × (n ≡ size (loopOf (now file))) ⌝ }
+// The ranks of all n operations in an order, from the longest paths from each (`high`) and to it (`early`): by one of four priorities in turn, and from the eighth order on with paths that are taken to be some cycles longer
+// than they are, so that operations of like rank change places.
+pub fn rank_all(
+    file: &[u8],
+    n: usize,
+    order: usize,
+    high: &[u16; 64],
+    early: &[u16; 64],
+    ranks: &mut [u32; 64],
+)
+    requires { ⌜ Accepted (now file) × (n ≡ size (loopOf (now file))) ⌝ }
 {
     let priority = order % 4;
-    let mut high = [0u16; 64];
-    paths(file, n, interval, false, &mut high);
-    let mut early = [0u16; 64];
-    if priority == 1 {
-        paths(file, n, interval, true, &mut early);
-    }
     let mut o = 0;
     while o < n {
         let far = capped(wide(high[o])) + noise(order, o);

@@ -8,21 +8,31 @@ use Rattle.iterative.proofs.attempt.attempt_all.Statement.{statement}
 use Rattle.iterative.proofs.attempt.attempt_all.Tie as tie
 
 abbrev Inv-loop : tie.InvT-loop
-Inv-loop file n interval horizon tries starts₀ rows₀ order₀ starts rows order = (order ≤ tries) × Untouched starts₀ rows₀ starts rows
+Inv-loop file n interval horizon tries starts₀ rows₀ high early order₀ starts rows order = (order ≤ tries) × Untouched starts₀ rows₀ starts rows
 
 abbrev μ-loop : tie.MeasureT-loop
-μ-loop file n interval horizon tries starts₀ rows₀ order₀ starts rows order = tries - order
+μ-loop file n interval horizon tries starts₀ rows₀ high early order₀ starts rows order = tries - order
+
+paths-requires : tie.Need-paths-requires Inv-loop μ-loop
+paths-requires c κs = let q = c .before .before .before .pre in (q .accepted, q .numbers .short)
+
+paths-requires-2 : tie.Need-paths-requires-2 Inv-loop μ-loop
+paths-requires-2 c κs = let q = c .before .before .before .before .before .pre in (q .accepted, q .numbers .short)
 
 loop-holds : tie.Need-loop-holds Inv-loop μ-loop
 loop-holds c = (omega arith, untouched _ _)
 
+-- the function's entry, as a turn sees it
+abbrev entry : tie.At-loop Inv-loop μ-loop → tie.Start Inv-loop μ-loop
+entry a = a .before .before .before .before .before .before .before
+
 attempt-requires : tie.Need-attempt-requires Inv-loop μ-loop
-attempt-requires c κs = let a = c .before .before .before in ready-again (a .before .before .before .pre) (a .loop .inv .1)
+attempt-requires c κs = let a = c .before .before .before .before .before in ready-again (entry a .pre) (a .loop .inv .1)
 
 -- after an attempt
-left-by : (c : tie.After-attempt Inv-loop μ-loop) → let s = c .before .before .before .before .before .before .before .args in
-    Untouched (s .starts .now) (s .rows .now) (c .attempt .last .1 .1 .1 .1 .1 .0) (c .attempt .last .1 .1 .1 .1 .1 .1 .0)
-left-by c = untouched-again (c .before .before .before .before .loop .inv .1) (c .attempt .ensures .untouched)
+left-by : (c : tie.After-attempt Inv-loop μ-loop) → let s = entry (c .before .before .before .before .before .before) .args in
+    Untouched (s .starts .now) (s .rows .now) (c .attempt .last .1 .1 .1 .1 .1 .1 .1 .0) (c .attempt .last .1 .1 .1 .1 .1 .1 .1 .1 .0)
+left-by c = untouched-again (c .before .before .before .before .before .before .loop .inv .1) (c .attempt .ensures .untouched)
 
 same-length : tie.Need-same-length Inv-loop μ-loop
 same-length c = left-by (c .before .before .before) .rows-length
@@ -51,6 +61,8 @@ attempt-all-spec =
     (tie.spec
     Inv-loop
     μ-loop
+    paths-requires
+    paths-requires-2
     loop-holds
     attempt-requires
     same-length

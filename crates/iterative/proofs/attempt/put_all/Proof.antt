@@ -11,13 +11,13 @@ use Rattle.iterative.proofs.attempt.put_all.Statement.{statement}
 use Rattle.iterative.proofs.attempt.put_all.Tie as tie
 
 abbrev Inv-loop : tie.InvT-loop
-Inv-loop file n interval horizon order starts₀ rows₀ ranks gridded again₀ left₀ starts rows again left = Kept file interval horizon rows₀ starts rows
+Inv-loop file n interval horizon order high early starts₀ rows₀ ranks gridded again₀ left₀ starts rows again left = Kept file interval horizon rows₀ starts rows
 
 abbrev μ-loop : tie.MeasureT-loop
-μ-loop file n interval horizon order starts₀ rows₀ ranks gridded again₀ left₀ starts rows again left = left
+μ-loop file n interval horizon order high early starts₀ rows₀ ranks gridded again₀ left₀ starts rows again left = left
 
 rank-all-requires : tie.Need-rank-all-requires Inv-loop μ-loop
-rank-all-requires c κs = let p = c .before .before .before .pre in (p .0 .accepted, p .0 .numbers .short, p .1)
+rank-all-requires c κs = let p = c .before .before .before .pre in (p .0 .accepted, p .1)
 
 mul-left : tie.Need-mul-left Inv-loop μ-loop
 mul-left c = let s = c .before .before .before .before in omega (arith, s .pre .1, few-operations (s .args .file .now) (s .pre .0 .accepted))

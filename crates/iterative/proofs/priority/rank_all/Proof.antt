@@ -6,25 +6,19 @@ use Rattle.iterative.proofs.priority.rank_all.Statement.{statement}
 use Rattle.iterative.proofs.priority.rank_all.Tie as tie
 
 abbrev Inv-loop : tie.InvT-loop
-Inv-loop file n interval order ranks₀ priority high early o₀ ranks o = (o ≤ n) × (n ≤ 64)
+Inv-loop file n order high early ranks₀ priority o₀ ranks o = (o ≤ n) × (n ≤ 64)
 
 abbrev μ-loop : tie.MeasureT-loop
-μ-loop file n interval order ranks₀ priority high early o₀ ranks o = n - o
-
-paths-requires : tie.Need-paths-requires Inv-loop μ-loop
-paths-requires c κs = let p = c .before .before .pre in (p .0, p .1)
-
-paths-requires-2 : tie.Need-paths-requires-2 Inv-loop μ-loop
-paths-requires-2 c κs = let p = c .before .before .before .before .before .pre in (p .0, p .1)
+μ-loop file n order high early ranks₀ priority o₀ ranks o = n - o
 
 loop-holds : tie.Need-loop-holds Inv-loop μ-loop
-loop-holds c = let s = c .before .before .before .before in (omega arith, omega (arith, few-operations (s .args .file .now) (s .pre .0)))
+loop-holds c = let s = c .before in (omega arith, omega (arith, few-operations (s .args .file .now) (s .pre .0)))
 
 mul-wide : tie.Need-mul-wide Inv-loop μ-loop
 mul-wide c = omega arith
 
-array-read-wide : tie.Need-array-read-wide Inv-loop μ-loop
-array-read-wide c = omega arith
+element-copy-out-wide : tie.Need-element-copy-out-wide Inv-loop μ-loop
+element-copy-out-wide c = omega arith
 
 wide-requires : tie.Need-wide-requires Inv-loop μ-loop
 wide-requires c κs = omega arith
@@ -41,14 +35,14 @@ add-far c = omega (arith, c .noise .ensures, c .before .capped .ensures)
 mul-wide-2 : tie.Need-mul-wide-2 Inv-loop μ-loop
 mul-wide-2 c = omega arith
 
-array-read-wide-2 : tie.Need-array-read-wide-2 Inv-loop μ-loop
-array-read-wide-2 c = omega arith
+element-copy-out-wide-2 : tie.Need-element-copy-out-wide-2 Inv-loop μ-loop
+element-copy-out-wide-2 c = omega arith
 
 wide-requires-2 : tie.Need-wide-requires-2 Inv-loop μ-loop
 wide-requires-2 c κs = omega arith
 
 held-requires : tie.Need-held-requires Inv-loop μ-loop
-held-requires c κs = let p = c .before .before .before .before .before .before .before .before .before .before .pre in (p .0, omega arith)
+held-requires c κs = let p = c .before .before .before .before .before .before .before .before .before .pre in (p .0, omega arith)
 
 rank-requires : tie.Need-rank-requires Inv-loop μ-loop
 rank-requires c κs = omega arith
@@ -77,17 +71,15 @@ rank-all-spec =
     (tie.spec
     Inv-loop
     μ-loop
-    paths-requires
-    paths-requires-2
     loop-holds
     mul-wide
-    array-read-wide
+    element-copy-out-wide
     wide-requires
     capped-requires
     noise-requires
     add-far
     mul-wide-2
-    array-read-wide-2
+    element-copy-out-wide-2
     wide-requires-2
     held-requires
     rank-requires
