@@ -118,9 +118,9 @@ pub record TakenPlace (cap : Capacity) (u : Usage) (own : Bool) (ii : ℕ) (p : 
   pub lowest : (j : ℕ) → j < use-number → takenAt cap u own ii t k (useAt p j) ≡ false
   pub earliest : (c j : ℕ) → c < k → j < length (p .uses) → takenAt cap u own ii t c (useAt p j) ≡ false
 
-pub taken-place : (cap : Capacity) (u : Usage) (own : Bool) (ii : ℕ) (p : Op) (t k : ℕ) (v : Use) → firstTaken cap u own ii p t ≡ some (k, v) → TakenPlace cap u own ii p t k v
+pub taken-found : (cap : Capacity) (u : Usage) (own : Bool) (ii : ℕ) (p : Op) (t k : ℕ) (v : Use) → firstTaken cap u own ii p t ≡ some (k, v) → TakenPlace cap u own ii p t k v
 unfolding firstTaken
-taken-place cap u own ii p t k v e =
+taken-found cap u own ii p t k v e =
     let g = grid-is (takenAt cap u own ii t) (p .uses) noUse 16 k v e in
     record {
       cycle-below = g .below;
