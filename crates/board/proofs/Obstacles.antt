@@ -15,17 +15,21 @@ use lib.Pow.{pow-pos, pow-add}
 use lib.Seq.{getD-set-same, getD-set-other, ext-getD}
 use Rattle.model.specs.Lists.{upFrom, anyOf, sumOf}
 use Rattle.model.specs.Refusals.{firstRefusal, answered}
-use Rattle.model.specs.Loop.{Loop, noDep, size, opAt}
+use Rattle.model.specs.Loop.{Loop, noDep, size, opAt, LoopOk}
 use Rattle.model.specs.File.{loopOf, Accepted}
-use Rattle.model.specs.Legality.{Placing, conflict, conflictAt, touches, breaks, conflictsWith, fitsAt}
+use Rattle.model.specs.Legality.{Placing, selfConflict, conflict, conflictAt, touches, breaks, conflictsWith, fitsAt}
+use Rattle.model.specs.Table.{rowBase}
 use Rattle.model.specs.Session.{Starts, placedIn, force, displaced, isPlaced, checks, inTheWay, without, maskOf}
-use Rattle.model.proofs.Lists.{any-places}
+use Rattle.model.proofs.Lists.{or-false-right, any-row, any-places}
+use Rattle.model.proofs.File.{accepted-ok}
 use Rattle.model.proofs.Sums.{sum-next}
 use Rattle.model.proofs.Good.{without-length, without-at, new-passed}
 use Rattle.model.proofs.Good as good
+use Rattle.reservation.specs.Place.{firstMet}
 use Rattle.reservation.specs.Seats.{seatOf, seats}
 use Rattle.reservation.proofs.Bits.{or-shl}
 use Rattle.reservation.proofs.Seats.{seat-none, seat-some}
+use Rattle.reservation.proofs.Placings.{legal-digits, free-conflict}
 use Rattle.board.specs.Board.{setupAs, startsOf, bare, Sane, Board, IsPut}
 use Rattle.board.specs.Moves.{hitBy, HitIs, HitsAre, way, Cleared, Did}
 use Rattle.board.specs.declared.Reply.the-variants as reply
@@ -65,6 +69,10 @@ module _ (f : List ℕ) {ii h : ℕ} {xs : List ℕ} (a : Accepted f) (s : Sane 
     -- and marked
     pub way-hit : hitBy (loopOf f) ii (seats xs) o t (length (loopOf f .deps)) p ≡ true → way f ii o t xs p ≡ true
     way-hit e = way-placed ∙ rw e (or-true (conflictsWith (loopOf f) ii (seats xs) o t p))
+
+    -- and neither marked nor in conflict
+    pub way-free : hitBy (loopOf f) ii (seats xs) o t (length (loopOf f .deps)) p ≡ false → conflictsWith (loopOf f) ii (seats xs) o t p ≡ false → way f ii o t xs p ≡ false
+    way-free e c = way-placed ∙ rw (e, c)
 
     -- and not marked: the cells decide
     pub way-clash : (p ≡ o → ⊥) → hitBy (loopOf f) ii (seats xs) o t (length (loopOf f .deps)) p ≡ false
@@ -147,6 +155,14 @@ module _ {f : List ℕ} {ii o t p : ℕ} {xs₀ rows₀ xs rows : List ℕ} {mas
     h .whole,
     λ n. h .at p inside n ∙ sym (hit-same ii (seats xs) (seats xs₀) o t p (ap seatOf clear-here) n (loopOf f) (length (loopOf f .deps))),
   )
+
+  -- where the rows were free for operation o, operation p does not conflict with it
+  pub clear-free : o < size (loopOf f) → p < size (loopOf f) → firstMet rowBase ii rows₀ t (opAt (loopOf f) o .uses) ≡ none → conflictsWith (loopOf f) ii (seats xs) o t p ≡ false
+  clear-free inside-o inside e =
+      let ok : LoopOk (loopOf f) = accepted-ok f (b .accepted) in
+      let none-at = free-conflict (loopOf f) ii (seats xs₀) o t ok (b .numbers .some) inside-o (seat-none (getD xs₀ o 65535) free) rows₀ (b .held) (legal-digits (loopOf f) ii (seats xs₀) ok (b .sane .fine)) e in
+      ap (λ (x : Option ℕ). not (eqb p o) && conflictAt ii (opAt (loopOf f) o) (some t) (opAt (loopOf f) p) x) (ap seatOf clear-here)
+      ∙ any-row (conflictsWith (loopOf f) ii (seats xs₀) o t) 0 (size (loopOf f)) p (or-false-right (selfConflict ii (opAt (loopOf f) o)) _ none-at) (omega arith) (omega arith)
 
   -- operation o is still not placed
   pub clear-open : getD xs o 65535 ≡ 65535

@@ -6,21 +6,24 @@ use crate::checks::removable;
 use crate::lift;
 use crate::put;
 use loop_access::dep_count;
+use loop_access::first_use;
 use loop_access::op_count;
 use loop_access::source;
 use loop_access::target;
 use refusals::Checked;
+use reservation::Place;
 use reservation::deps::breaks_at;
 use reservation::pairs::overlap;
+use reservation::test::conflict;
 ghost use mathlib.Core.Path.{_≡_};
 ghost use Prim.Native.Nat.{_<_, _≤_};
 ghost use lib.ListN.{length, getD, take, replicate};
-ghost use Rattle.model.specs.Loop.{size};
-ghost use Rattle.model.specs.File.{loopOf};
+ghost use Rattle.model.specs.Loop.{size, opAt};
+ghost use Rattle.model.specs.File.{loopOf, Accepted};
 ghost use Rattle.model.specs.Session as model;
-ghost use Rattle.board.specs.Board.{Named, Sane, Board, setupAs, startsOf};
+ghost use Rattle.board.specs.Board.{Named, Numbers, Sane, Board, setupAs, startsOf};
 ghost use Rattle.board.specs.Checks.{asReply};
-ghost use Rattle.board.specs.Moves.{Did, Removed, HitsAre, MarkKnown, Cleared, Agrees, Thinned, Restored};
+ghost use Rattle.board.specs.Moves.{Did, Removed, HitsAre, FreeIs, MarkKnown, Cleared, Agrees, Thinned, Restored};
 
 // Places an operation, or says why not.
 pub fn place(
@@ -114,11 +117,12 @@ fn displace(
 {
     let mut hits = [0u8; 64];
     mark_broken(file, op, start, interval, starts, &mut hits);
+    let free = is_free(file, op, start, interval, rows);
     let n = op_count(file);
     let mut mask = 0u64;
     let mut p = 0;
     while p < n {
-        if in_the_way(file, op, start, p, interval, starts, &hits) {
+        if in_the_way(file, op, start, p, interval, free, starts, &hits) {
             lift(file, p, interval, starts, rows);
             mask = mask | (1 << p);
         }
@@ -155,17 +159,29 @@ fn mark_broken(
     }
 }
 
-// Whether operation p is in the way of `op` at `start`: it is placed, and the two conflict or a dependence between them is broken.
+// Whether the rows are free for `op` at `start`: then no placed operation conflicts with it, and none has to be tested.
+fn is_free(file: &[u8], op: usize, start: usize, interval: usize, rows: &[u64]) -> bool
+    requires { ⌜ Accepted (now file) × (op < size (loopOf (now file))) × (start < 4096) × Numbers interval 4096 × (interval ≤ length (now rows)) ⌝ }
+    ensures { λ r. ⌜ FreeIs (opAt (loopOf (now (file .entry))) op) interval start (now (rows .entry)) r ⌝ }
+{
+    if let Place::Free = conflict(file, op, first_use(file, op), start, interval, rows) {
+        return true;
+    }
+    false
+}
+
+// Whether operation p is in the way of `op` at `start`: it is placed, and the two conflict or a dependence between them is broken. `free` says that no placed operation conflicts with `op` there.
 fn in_the_way(
     file: &[u8],
     op: usize,
     start: usize,
     p: usize,
     interval: usize,
+    free: bool,
     starts: &[u16; 64],
     hits: &[u8; 64],
 ) -> bool
-    requires { ⌜ MarkKnown (now file) interval op start p (now starts) (now hits) ⌝ }
+    requires { ⌜ MarkKnown (now file) interval op start p free (now starts) (now hits) ⌝ }
     ensures { λ r. ⌜ r ≡ model.inTheWay (setupAs (now (file .entry)) interval 0) (startsOf (size (loopOf (now (file .entry)))) (now (starts .entry))) op start p ⌝ }
 {
     let other = starts[p];
@@ -174,6 +190,9 @@ fn in_the_way(
     }
     if hits[p] == 1 {
         return true;
+    }
+    if free {
+        return false;
     }
     overlap(file, op, start, p, other as usize, interval)
 }

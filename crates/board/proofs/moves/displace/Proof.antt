@@ -8,15 +8,15 @@ use Rattle.model.specs.Loop.{size}
 use Rattle.model.specs.File.{loopOf}
 use Rattle.board.specs.Moves.{Cleared}
 use Rattle.board.proofs.Boards.{few-operations, rest-length}
-use Rattle.board.proofs.Obstacles.{clear-begin, clear-hit, clear-open, clear-placed, clear-keep, clear-lift}
+use Rattle.board.proofs.Obstacles.{clear-begin, clear-hit, clear-free, clear-open, clear-placed, clear-keep, clear-lift}
 use Rattle.board.proofs.moves.displace.Statement.{statement}
 use Rattle.board.proofs.moves.displace.Tie as tie
 
 abbrev Inv-loop : tie.InvT-loop
-Inv-loop file op start interval starts₀ rows₀ hits n mask₀ p₀ starts rows mask p = (p ≤ n) × Cleared file interval op start p starts₀ rows₀ starts rows mask
+Inv-loop file op start interval starts₀ rows₀ hits free n mask₀ p₀ starts rows mask p = (p ≤ n) × Cleared file interval op start p starts₀ rows₀ starts rows mask
 
 abbrev μ-loop : tie.MeasureT-loop
-μ-loop file op start interval starts₀ rows₀ hits n mask₀ p₀ starts rows mask p = n - p
+μ-loop file op start interval starts₀ rows₀ hits free n mask₀ p₀ starts rows mask p = n - p
 
 mark-broken-requires : tie.Need-mark-broken-requires Inv-loop μ-loop
 mark-broken-requires c κs =
@@ -24,17 +24,23 @@ mark-broken-requires c κs =
     let b = s .pre .0 in
     (record { accepted = b .accepted; whole = b .sane .whole }, s .pre .3, b .numbers .short, refl)
 
+is-free-requires : tie.Need-is-free-requires Inv-loop μ-loop
+is-free-requires c κs =
+    let s = c .before .before .before .before .before .before in
+    let b = s .pre .0 in
+    (b .accepted, s .pre .1, s .pre .3, b .numbers, b .held .long)
+
 op-count-requires : tie.Need-op-count-requires Inv-loop μ-loop
-op-count-requires c κs = c .before .before .before .before .before .pre .0 .accepted
+op-count-requires c κs = c .before .before .before .before .before .before .before .pre .0 .accepted
 
 loop-holds : tie.Need-loop-holds Inv-loop μ-loop
 loop-holds c =
-    let s = c .before .before .before .before .before .before in
+    let s = c .before .before .before .before .before .before .before .before in
     (omega arith, clear-begin (s .args .op) (s .args .start) (s .pre .0))
 
 -- the function's entry, as a turn sees it
 abbrev entry : tie.In-loop Inv-loop μ-loop → tie.Start Inv-loop μ-loop
-entry c = c .before .before .before .before .before .before .before .before
+entry c = c .before .before .before .before .before .before .before .before .before .before
 
 -- the operation is there
 inside : (c : tie.In-loop Inv-loop μ-loop) → c .before .loop .p < size (loopOf (entry c .args .file .now))
@@ -58,7 +64,8 @@ in-the-way-requires c κs =
       inside-p = inside i;
       near = s .pre .3;
       blank = clear-open b (s .pre .2) t;
-      hit = clear-hit b (s .pre .2) t (inside i) (i .before .before .before .mark-broken .ensures);
+      hit = clear-hit b (s .pre .2) t (inside i) (i .before .before .before .before .before .mark-broken .ensures);
+      apart = λ e. clear-free b (s .pre .2) t (s .pre .1) (inside i) (i .before .before .before .is-free .ensures .yes e);
     }
 
 lift-requires : tie.Need-lift-requires Inv-loop μ-loop
@@ -94,7 +101,7 @@ loop-again c =
 same-length : tie.Need-same-length Inv-loop μ-loop
 same-length c =
     let t = c .before .loop .inv .1 in
-    rest-length (c .before .before .before .before .before .before .before .before .pre .0) (t .board) (t .rest)
+    rest-length (c .before .before .before .before .before .before .before .before .before .before .pre .0) (t .board) (t .rest)
 
 returns : tie.Need-returns Inv-loop μ-loop
 returns c =
@@ -108,6 +115,7 @@ displace-spec =
     Inv-loop
     μ-loop
     mark-broken-requires
+    is-free-requires
     op-count-requires
     loop-holds
     in-the-way-requires

@@ -1,12 +1,16 @@
 -- `moves::in_the_way` meets its contract: one law of `Obstacles` for each return. Assumes nothing.
 use mathlib.Core.Path.{_≡_, sym, ap, _∙_}
+use mathlib.Core.Bool.{false}
 use Prim.Native.Nat.{ℕ, _<_}
 use native.Mathlib.Omega.{arith}
 use borrow.Author.Tests.{eq-eqb, ne-eqb}
-use lib.ListN.{getD}
+use lib.ListN.{length, getD}
+use Rattle.model.specs.File.{loopOf}
 use Rattle.model.proofs.Firsts.{getD-within}
+use Rattle.reservation.specs.Seats.{seats}
+use Rattle.board.specs.Moves.{hitBy}
 use Rattle.board.proofs.Boards.{few-operations, sane-near}
-use Rattle.board.proofs.Obstacles.{way-blank, way-hit, way-clash}
+use Rattle.board.proofs.Obstacles.{way-blank, way-hit, way-free, way-clash}
 use Rattle.board.proofs.moves.in_the_way.Statement.{statement}
 use Rattle.board.proofs.moves.in_the_way.Tie as tie
 
@@ -50,21 +54,36 @@ near c =
     let s = i .before .before .before in
     omega (arith, number-is s, sane-near (s .pre .sane) (s .args .p) (λ e. i .if1 .left (sym (number-is s) ∙ e)))
 
-cast-overlap : tie.Need-cast-overlap
-cast-overlap c = omega (arith, near c)
-
-overlap-requires : tie.Need-overlap-requires
-overlap-requires c κs =
-    let s = c .before .before .before .before .before in
-    (s .pre .accepted, s .pre .inside, s .pre .inside-p, s .pre .near, near c, s .pre .numbers .some, s .pre .numbers .short)
+-- no dependence with it is broken
+unmarked : (c : tie.Else2) → let s = c .before .before .before .before .before in
+    hitBy (loopOf (s .args .file .now)) (s .args .interval) (seats (s .args .starts .now)) (s .args .op) (s .args .start) (length (loopOf (s .args .file .now) .deps)) (s .args .p) ≡ false
+unmarked c =
+    let i = c .before .before in
+    let s = i .before .before .before in
+    sym (s .pre .hit .1 (other s (i .if1 .left))) ∙ ne-eqb (getD (s .args .hits .now) (s .args .p) 0) 1 (c .if2 .left)
 
 returns-3 : tie.Need-returns-3
 returns-3 c =
-    let i = c .before .before .before in
+    let d = c .before in
+    let i = d .before .before in
+    let s = i .before .before .before in
+    sym (way-free (s .args .file .now) (s .pre .accepted) (s .pre .sane) (s .args .op) (s .args .start) (s .args .p) _ (number-is s) (i .if1 .left) (unmarked d) (s .pre .apart (c .if3 .taken)))
+
+cast-overlap : tie.Need-cast-overlap
+cast-overlap c = omega (arith, near (c .before))
+
+overlap-requires : tie.Need-overlap-requires
+overlap-requires c κs =
+    let s = c .before .before .before .before .before .before in
+    (s .pre .accepted, s .pre .inside, s .pre .inside-p, s .pre .near, near (c .before), s .pre .numbers .some, s .pre .numbers .short)
+
+returns-4 : tie.Need-returns-4
+returns-4 c =
+    let d = c .before .before in
+    let i = d .before .before in
     let s = i .before .before .before in
     c .overlap .ensures
-    ∙ sym (way-clash (s .args .file .now) (s .pre .accepted) (s .pre .sane) (s .args .op) (s .args .start) (s .args .p) _ (number-is s) (i .if1 .left) (other s (i .if1 .left))
-    (sym (s .pre .hit .1 (other s (i .if1 .left))) ∙ ne-eqb (getD (s .args .hits .now) (s .args .p) 0) 1 (c .before .if2 .left)))
+    ∙ sym (way-clash (s .args .file .now) (s .pre .accepted) (s .pre .sane) (s .args .op) (s .args .start) (s .args .p) _ (number-is s) (i .if1 .left) (other s (i .if1 .left)) (unmarked d))
 
 pub in-the-way-spec : {M : Type 1} → statement M
 in-the-way-spec =
@@ -75,6 +94,7 @@ in-the-way-spec =
     returns
     element-copy-out-if2
     returns-2
+    returns-3
     cast-overlap
     overlap-requires
-    returns-3)
+    returns-4)
