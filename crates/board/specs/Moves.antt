@@ -3,19 +3,17 @@ use mathlib.Core.Path.{_≡_}
 use mathlib.Core.Bool.{Bool, true, false, cond, _&&_}
 use mathlib.Core.List.{List}
 use mathlib.Core.Logic.{_⊎_}
-use mathlib.Core.Option.{none}
 use Prim.Native.Nat.{ℕ, _^_, _<_}
 use lib.Dec.{eqb, ltb}
 use lib.ListN.{length, getD, drop}
 use Rattle.model.specs.Lists.{upFrom, anyOf, sumOf}
 use Rattle.model.specs.Refusals.{Refusal, Answer, answered, refused}
-use Rattle.model.specs.Loop.{Op, Loop, depAt, size}
+use Rattle.model.specs.Loop.{Loop, depAt, size}
 use Rattle.model.specs.File.{loopOf, Accepted}
 use Rattle.model.specs.Legality.{Placing, touches, breaks, conflictsWith}
 use Rattle.model.specs.Table.{rowBase, IsTable, cellsOf}
 use Rattle.model.specs.Session.{Call, inTheWay, step}
 use Rattle.model.specs.Session as model
-use Rattle.reservation.specs.Place.{firstMet}
 use Rattle.reservation.specs.Seats.{seats}
 use Rattle.board.specs.Board.{startsOf, setupAs, bare, Numbers, Sane, Board}
 use Rattle.board.specs.declared.Reply.{Reply}
@@ -56,11 +54,6 @@ HitIs l ii o t p xs hits = (length hits ≡ 64) × ((p ≡ o → ⊥) → eqb (g
 pub record HitsAre (l : Loop) (ii o t k : ℕ) (xs hits : List ℕ) : Type 0 where
   pub whole : length hits ≡ 64
   pub at : (p : ℕ) → p < size l → (p ≡ o → ⊥) → eqb (getD hits p 0) 1 ≡ hitBy l ii (seats xs) o t k p
-
--- r says whether the rows are free for operation p, started at t
-pub record FreeIs (p : Op) (ii t : ℕ) (rows : List ℕ) (r : Bool) : Type 0 where
-  pub yes : r ≡ true → firstMet rowBase ii rows t (p .uses) ≡ none
-  pub no : r ≡ false → firstMet rowBase ii rows t (p .uses) ≡ none → ⊥
 
 -- what is asked to tell whether operation p is in the way of o, which is not placed, at t: that the mark of p is right, and where o is said to be free there that p does not conflict with it
 pub record MarkKnown (f : List ℕ) (ii o t p : ℕ) (free : Bool) (xs hits : List ℕ) : Type 0 where

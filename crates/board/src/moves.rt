@@ -11,19 +11,18 @@ use loop_access::op_count;
 use loop_access::source;
 use loop_access::target;
 use refusals::Checked;
-use reservation::Place;
 use reservation::deps::breaks_at;
 use reservation::pairs::overlap;
-use reservation::test::conflict;
+use reservation::test::is_free;
 ghost use mathlib.Core.Path.{_≡_};
 ghost use Prim.Native.Nat.{_<_, _≤_};
 ghost use lib.ListN.{length, getD, take, replicate};
-ghost use Rattle.model.specs.Loop.{size, opAt};
-ghost use Rattle.model.specs.File.{loopOf, Accepted};
+ghost use Rattle.model.specs.Loop.{size};
+ghost use Rattle.model.specs.File.{loopOf};
 ghost use Rattle.model.specs.Session as model;
-ghost use Rattle.board.specs.Board.{Named, Numbers, Sane, Board, setupAs, startsOf};
+ghost use Rattle.board.specs.Board.{Named, Sane, Board, setupAs, startsOf};
 ghost use Rattle.board.specs.Checks.{asReply};
-ghost use Rattle.board.specs.Moves.{Did, Removed, HitsAre, FreeIs, MarkKnown, Cleared, Agrees, Thinned, Restored};
+ghost use Rattle.board.specs.Moves.{Did, Removed, HitsAre, MarkKnown, Cleared, Agrees, Thinned, Restored};
 
 // Places an operation, or says why not.
 pub fn place(
@@ -103,7 +102,7 @@ fn passed_on(c: Checked) -> Reply
     }
 }
 
-// Takes out each operation that is in the way of `op` at `start`, and tells them by a bit each.
+// Takes out each operation that is in the way of `op` at `start`, and tells them by a bit each. Where the rows are free for `op`, no placed operation conflicts with it, and none is tested for that.
 fn displace(
     file: &[u8],
     op: usize,
@@ -117,7 +116,7 @@ fn displace(
 {
     let mut hits = [0u8; 64];
     mark_broken(file, op, start, interval, starts, &mut hits);
-    let free = is_free(file, op, start, interval, rows);
+    let free = is_free(file, op, first_use(file, op), start, interval, rows);
     let n = op_count(file);
     let mut mask = 0u64;
     let mut p = 0;
@@ -157,17 +156,6 @@ fn mark_broken(
         }
         e = e + 1;
     }
-}
-
-// Whether the rows are free for `op` at `start`: then no placed operation conflicts with it, and none has to be tested.
-fn is_free(file: &[u8], op: usize, start: usize, interval: usize, rows: &[u64]) -> bool
-    requires { ⌜ Accepted (now file) × (op < size (loopOf (now file))) × (start < 4096) × Numbers interval 4096 × (interval ≤ length (now rows)) ⌝ }
-    ensures { λ r. ⌜ FreeIs (opAt (loopOf (now (file .entry))) op) interval start (now (rows .entry)) r ⌝ }
-{
-    if let Place::Free = conflict(file, op, first_use(file, op), start, interval, rows) {
-        return true;
-    }
-    false
 }
 
 // Whether operation p is in the way of `op` at `start`: it is placed, and the two conflict or a dependence between them is broken. `free` says that no placed operation conflicts with `op` there.

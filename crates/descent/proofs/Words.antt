@@ -16,7 +16,7 @@ use Rattle.model.specs.Search.{words, whole, answer, notAfter}
 use Rattle.descent.specs.Tree.{tree, over}
 use Rattle.model.proofs.Sums.{sum-last}
 use Rattle.model.proofs.Lists.{and-left, and-right, and-both, or-false-left, or-false-right, any-map, first-later, none-first, count-flatMap, sum-none, sum-around, count-map, count-never}
-use Rattle.model.proofs.Firsts.{first-early, first-map}
+use Rattle.model.proofs.Firsts.{first-is, first-early, first-map}
 
 -- ---- lists of numbers
 
@@ -53,16 +53,6 @@ pub eq-same : (p q : List ℕ) → p ≡ q → sameList p q ≡ true
 eq-same p q e = ap (sameList p) (sym e) ∙ same-self p
 
 -- ---- counts, and what passes first
-
--- what is found first passes
-pub first-true : {A : Type 0} (p : A → Bool) (xs : List A) (a : A) → first p xs ≡ some a → p a ≡ true
-unfolding first
-first-true p [] a e = let z : _≡_ {A = ℕ} 0 1 = cc in absurd (omega arith)
-first-true p (x ∷ xs) a e = pick (p x) refl e (first-true p xs a)
-  where
-    pick : (b : Bool) → p x ≡ b → cond b (some x) (first p xs) ≡ some a → (first p xs ≡ some a → p a ≡ true) → p a ≡ true
-    pick true q f ih = let g : x ≡ a = cc in ap p (sym g) ∙ q
-    pick false q f ih = ih f
 
 -- what is found first is of the list
 first-counts : (p : List ℕ → Bool) (xs : List (List ℕ)) (a : List ℕ) → first p xs ≡ some a → 1 ≤ countIf (sameList a) xs
@@ -285,7 +275,7 @@ words-first h (suc n) p a (x ∷ b) e w t =
 pub answer-is : (L : List ℕ → Bool) (h n : ℕ) (a : List ℕ) → answer L h n ≡ some a → (length a ≡ n) × Below h a × (L a ≡ true)
 unfolding answer
 answer-is L h n a e =
-    let t : whole L n a ≡ true = first-true (whole L n) (words h n) a e in (
+    let t : whole L n a ≡ true = first-is (whole L n) (words h n) a a e .passes in (
       eqb-true (length a) n (and-left (eqb (length a) n) (L a) t),
       words-only h n a (first-counts (whole L n) (words h n) a e) .2,
       and-right (eqb (length a) n) (L a) t,

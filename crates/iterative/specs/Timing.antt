@@ -2,7 +2,7 @@
 use mathlib.Core.Path.{_≡_}
 use mathlib.Core.Bool.{Bool, true, false, not, cond, _&&_}
 use mathlib.Core.List.{List}
-use mathlib.Core.Option.{none, some}
+use mathlib.Core.Option.{some}
 use Prim.Native.Nat.{ℕ, _+_, _%_, _≤_, _<_, max}
 use lib.Dec.{eqb, leb}
 use lib.ListN.{length}
@@ -10,8 +10,7 @@ use Rattle.model.specs.Lists.{upFrom, anyOf, maxOf}
 use Rattle.model.specs.Loop.{Op, Dep, Loop, size, opAt, useAt, depAt}
 use Rattle.model.specs.File.{loopOf, Accepted}
 use Rattle.model.specs.Legality.{Placing, brokenAt}
-use Rattle.model.specs.Table.{rowBase}
-use Rattle.reservation.specs.Place.{firstMet}
+use Rattle.reservation.specs.Place.{FreeAt}
 use Rattle.reservation.specs.Seats.{seats}
 
 -- ---- dependences on placed operations
@@ -27,12 +26,6 @@ pub record DueIs (l : Loop) (ii : ℕ) (xs : List ℕ) (o e r : ℕ) : Type 0 wh
 -- the first k dependences allow it every start from r on, and no other
 pub record EarliestStart (l : Loop) (ii : ℕ) (xs : List ℕ) (o k r : ℕ) : Type 0 where
   pub at : (t : ℕ) → leb r t ≡ not (anyOf (λ e. tooEarly ii (seats xs) o t (depAt l e)) (upFrom 0 k))
-
--- ---- free starts
-
--- the rows are free for operation p, started at t
-abbrev pub FreeAt : ℕ → List ℕ → Op → ℕ → Type 0
-FreeAt ii rows p t = firstMet rowBase ii rows t (p .uses) ≡ none
 
 -- ---- the grid
 

@@ -9,8 +9,7 @@ use loop_access::first_use;
 use loop_access::source;
 use loop_access::target;
 use loop_access::use_count;
-use reservation::Place;
-use reservation::test::conflict;
+use reservation::test::is_free;
 ghost use mathlib.Core.Path.{_≡_};
 ghost use Prim.Native.Nat.{_<_, _≤_};
 ghost use lib.ListN.{length};
@@ -105,10 +104,7 @@ fn suits(
     if !on_grid(start, interval, width) {
         return false;
     }
-    if let Place::Free = conflict(file, op, first, start, interval, rows) {
-        return true;
-    }
-    false
+    is_free(file, op, first, start, interval, rows)
 }
 
 // The first start of `from`, .., `from` + interval - 1, below the horizon, that is on the grid and at which the rows are free for `op`, or the horizon.

@@ -15,6 +15,10 @@ use Rattle.model.specs.Lists.{upFrom, pairs, anyOf, first, countIf, sumO
 
 -- ---- tests
 
+-- true is not false
+pub true-false : {X : Type 0} → true ≡ false → X
+true-false e = let z : _≡_ {A = ℕ} 0 1 = cc in absurd (omega arith)
+
 -- a test that fails, negated
 pub false-not : (b : Bool) → b ≡ false → not b ≡ true
 false-not b e = rw e

@@ -1,14 +1,15 @@
 -- The first place in which an operation meets a taken cell: cycle by cycle, and in a cycle by slot. Assumes nothing.
-use mathlib.Core.Bool.{Bool, _&&_, _||_}
+use mathlib.Core.Path.{_≡_}
+use mathlib.Core.Bool.{Bool, true, false, _&&_, _||_}
 use mathlib.Core.List.{List, map, flatMap}
 use mathlib.Core.Option.{Option, none, some}
 use Prim.Native.Nat.{ℕ, _+_, _%_}
 use lib.Dec.{eqb, leb}
 use lib.ListN.{getD}
 use Rattle.model.specs.Lists.{upFrom, first, maxOf}
-use Rattle.model.specs.Loop.{Use}
+use Rattle.model.specs.Loop.{Use, Op}
 use Rattle.model.specs.Legality.{covers}
-use Rattle.model.specs.Table.{digitOf}
+use Rattle.model.specs.Table.{rowBase, digitOf}
 use Rattle.reservation.specs.declared.Place.{Place}
 use Rattle.reservation.specs.declared.Place.the-variants.{Free, Taken}
 use Rattle.reservation.specs.declared.test.Cycle.{Cycle}
@@ -52,3 +53,12 @@ placeOf (Taken k s) = some (k, s)
 abbrev pub placeIs : Option (ℕ × Use) → Option (ℕ × ℕ)
 placeIs none = none
 placeIs (some p) = some (p .0, p .1 .slot)
+
+-- the rows are free for operation p, started at s: nothing is taken
+abbrev pub FreeAt : ℕ → List ℕ → Op → ℕ → Type 0
+FreeAt ii rows p s = firstMet rowBase ii rows s (p .uses) ≡ none
+
+-- r says whether they are
+pub record FreeIs (p : Op) (ii s : ℕ) (rows : List ℕ) (r : Bool) : Type 0 where
+  pub yes : r ≡ true → FreeAt ii rows p s
+  pub no : r ≡ false → FreeAt ii rows p s → ⊥

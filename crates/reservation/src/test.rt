@@ -11,7 +11,7 @@ ghost use lib.ListN.{length, getD};
 ghost use Rattle.model.specs.Loop.{noUse, size, opAt, allUses, firstUseOf};
 ghost use Rattle.model.specs.File.{loopOf, Accepted};
 ghost use Rattle.model.specs.Table.{rowBase};
-ghost use Rattle.reservation.specs.Place.{metBy, metIn, cyclesOf, cycleIs, firstMet, placeOf, placeIs};
+ghost use Rattle.reservation.specs.Place.{metBy, metIn, cyclesOf, cycleIs, firstMet, placeOf, placeIs, FreeIs};
 
 // Whether use u of all meets a taken cell in cycle k of its operation, which falls into the row given.
 fn taken(file: &[u8], u: usize, k: usize, interval: usize, row: u64) -> bool
@@ -87,4 +87,22 @@ pub fn conflict(
         k = k + 1;
     }
     Place::Free
+}
+
+// Whether the rows are free for the operation, started at `start`: it meets no taken cell, and not itself.
+pub fn is_free(
+    file: &[u8],
+    op: usize,
+    first: usize,
+    start: usize,
+    interval: usize,
+    rows: &[u64],
+) -> bool
+    requires { ⌜ Accepted (now file) × (op < size (loopOf (now file))) × (start ≤ 4096) × (1 ≤ interval) × (interval ≤ 4096) × (interval ≤ length (now rows)) × (first ≡ firstUseOf (loopOf (now file)) op) ⌝ }
+    ensures { λ r. ⌜ FreeIs (opAt (loopOf (now (file .entry))) op) interval start (now (rows .entry)) r ⌝ }
+{
+    if let Place::Free = conflict(file, op, first, start, interval, rows) {
+        return true;
+    }
+    false
 }

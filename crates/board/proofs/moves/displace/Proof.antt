@@ -24,23 +24,26 @@ mark-broken-requires c κs =
     let b = s .pre .0 in
     (record { accepted = b .accepted; whole = b .sane .whole }, s .pre .3, b .numbers .short, refl)
 
+first-use-requires : tie.Need-first-use-requires Inv-loop μ-loop
+first-use-requires c κs = let s = c .before .before .before .before .before in (s .pre .0 .accepted, s .pre .1)
+
 is-free-requires : tie.Need-is-free-requires Inv-loop μ-loop
 is-free-requires c κs =
-    let s = c .before .before .before .before .before .before in
+    let s = c .before .before .before .before .before .before .before in
     let b = s .pre .0 in
-    (b .accepted, s .pre .1, s .pre .3, b .numbers, b .held .long)
+    (b .accepted, s .pre .1, omega (arith, s .pre .3), b .numbers .some, b .numbers .short, b .held .long, c .before .first-use .ensures)
 
 op-count-requires : tie.Need-op-count-requires Inv-loop μ-loop
-op-count-requires c κs = c .before .before .before .before .before .before .before .pre .0 .accepted
+op-count-requires c κs = c .before .before .before .before .before .before .before .before .pre .0 .accepted
 
 loop-holds : tie.Need-loop-holds Inv-loop μ-loop
 loop-holds c =
-    let s = c .before .before .before .before .before .before .before .before in
+    let s = c .before .before .before .before .before .before .before .before .before in
     (omega arith, clear-begin (s .args .op) (s .args .start) (s .pre .0))
 
 -- the function's entry, as a turn sees it
 abbrev entry : tie.In-loop Inv-loop μ-loop → tie.Start Inv-loop μ-loop
-entry c = c .before .before .before .before .before .before .before .before .before .before
+entry c = c .before .before .before .before .before .before .before .before .before .before .before
 
 -- the operation is there
 inside : (c : tie.In-loop Inv-loop μ-loop) → c .before .loop .p < size (loopOf (entry c .args .file .now))
@@ -64,7 +67,7 @@ in-the-way-requires c κs =
       inside-p = inside i;
       near = s .pre .3;
       blank = clear-open b (s .pre .2) t;
-      hit = clear-hit b (s .pre .2) t (inside i) (i .before .before .before .before .before .mark-broken .ensures);
+      hit = clear-hit b (s .pre .2) t (inside i) (i .before .before .before .before .before .before .mark-broken .ensures);
       apart = λ e. clear-free b (s .pre .2) t (s .pre .1) (inside i) (i .before .before .before .is-free .ensures .yes e);
     }
 
@@ -101,7 +104,7 @@ loop-again c =
 same-length : tie.Need-same-length Inv-loop μ-loop
 same-length c =
     let t = c .before .loop .inv .1 in
-    rest-length (c .before .before .before .before .before .before .before .before .before .before .pre .0) (t .board) (t .rest)
+    rest-length (c .before .before .before .before .before .before .before .before .before .before .before .pre .0) (t .board) (t .rest)
 
 returns : tie.Need-returns Inv-loop μ-loop
 returns c =
@@ -115,6 +118,7 @@ displace-spec =
     Inv-loop
     μ-loop
     mark-broken-requires
+    first-use-requires
     is-free-requires
     op-count-requires
     loop-holds

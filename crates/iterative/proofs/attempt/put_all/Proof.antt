@@ -1,9 +1,8 @@
 -- `attempt::put_all` meets its contract. The loop's invariant: the starts and the rows are a board, and later rows are as they were. The measure is what is left of the steps. Assumes nothing.
-use mathlib.Core.Bool.{true, false}
-use mathlib.Core.Path.{_≡_, refl}
-use Prim.Native.Nat.{ℕ}
+use mathlib.Core.Path.{_≡_, refl, sym}
 use native.Mathlib.Omega.{arith}
 use lib.ListN.{length}
+use Rattle.model.proofs.Lists.{true-false}
 use Rattle.board.proofs.Boards.{few-operations}
 use Rattle.iterative.specs.Placed.{Kept}
 use Rattle.iterative.proofs.Schedules.{kept-again, kept-length}
@@ -48,12 +47,8 @@ returns c = record { kept = c .before .before .before .before .loop .inv; all = 
 same-length-2 : tie.Need-same-length-2 Inv-loop μ-loop
 same-length-2 c = as-long (c .before .before .before .before .before)
 
--- not all are placed
-not-all : {X : Type 0} → false ≡ true → X
-not-all e = let z : _≡_ {A = ℕ} 0 1 = cc in absurd (omega arith)
-
 returns-2 : tie.Need-returns-2 Inv-loop μ-loop
-returns-2 c = record { kept = c .before .before .before .before .before .loop .inv; all = not-all }
+returns-2 c = record { kept = c .before .before .before .before .before .loop .inv; all = λ e. true-false (sym e) }
 
 sub-left : tie.Need-sub-left Inv-loop μ-loop
 sub-left c = omega arith
@@ -72,7 +67,7 @@ same-length-3 : tie.Need-same-length-3 Inv-loop μ-loop
 same-length-3 c = let w = c .before .before .before in kept-length (entry (turn w) .pre .0) (kept-again (turn w .loop .inv) (w .step .ensures))
 
 returns-3 : tie.Need-returns-3 Inv-loop μ-loop
-returns-3 c = let w = c .before .before .before in record { kept = kept-again (turn w .loop .inv) (w .step .ensures); all = not-all }
+returns-3 c = let w = c .before .before .before in record { kept = kept-again (turn w .loop .inv) (w .step .ensures); all = λ e. true-false (sym e) }
 
 loop-less : tie.Need-loop-less Inv-loop μ-loop
 loop-less c = omega arith
