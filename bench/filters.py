@@ -36,7 +36,7 @@ sys.dont_write_bytecode = True
 from loops import put
 from make import DEPENDENCES, OPERATIONS, renumbered
 
-SEED = 101
+SEED = 201
 LOOPS = 200
 LEAST = 8  # operations
 MULTIPLIER, ADDER, LOAD, STORE, BUS = 1, 2, 3, 4, 5

@@ -31,11 +31,11 @@ fn last_of(least: usize, cap: usize, horizon: usize) -> usize
 }
 
 // How many attempts are made at the first interval, and how many at each later one. At the first it pays to try harder: where that is the larger of the two bounds, a schedule is the smallest there is.
-const FIRST_TRIES: usize = 64;
+const FIRST_TRIES: usize = 256;
 
 const LATER_TRIES: usize = 8;
 
-// The interval at which every operation got a start, or 0 where none of those tried had one. Tried are the intervals from `least` to the cap or, if that is less, to the larger of `least` and horizon + 63; the first in 64
+// The interval at which every operation got a start, or 0 where none of those tried had one. Tried are the intervals from `least` to the cap or, if that is less, to the larger of `least` and horizon + 63; the first in 256
 // orders and the others in 8, and in each with 10 steps an operation, a step for each time that an operation is put. What the starts are where none is found, and what the first 4,096 rows are, is left free: the caller clears
 // the rows.
 pub fn place_all(

@@ -132,7 +132,7 @@ fn spread(order: usize) -> usize
 fn noise(order: usize, o: usize) -> usize
     ensures { λ r. ⌜ r < 16 ⌝ }
 {
-    let z = 64 * (order % 64) + o % 64 + 1;
+    let z = 64 * (order % 256) + o % 64 + 1;
     z * z * z % 65537 % spread(order)
 }
 

@@ -1,4 +1,4 @@
--- `priority::noise` is safe, since the number that is cubed is at most 4,096, and is below 16. Assumes nothing.
+-- `priority::noise` is safe, since the number that is cubed is at most 16,384, and is below 16. Assumes nothing.
 use Prim.Native.Nat.{ℕ, _+_, _*_, _%_, _≤_}
 use native.Mathlib.Nat.{mod-lt, mul-le-mul}
 use native.Mathlib.Omega.{arith}
@@ -7,10 +7,10 @@ use Rattle.iterative.proofs.priority.noise.Tie as tie
 
 -- the number that is cubed, and its square
 abbrev z : tie.Start → ℕ
-z s = 64 * (s .args .order % 64) + s .args .o % 64 + 1
+z s = 64 * (s .args .order % 256) + s .args .o % 64 + 1
 
-square : (s : tie.Start) → z s * z s ≤ 4096 * 4096
-square s = mul-le-mul {n₂ = 4096} {m₂ = 4096} (omega arith) (omega arith)
+square : (s : tie.Start) → z s * z s ≤ 16384 * 16384
+square s = mul-le-mul {n₂ = 16384} {m₂ = 16384} (omega arith) (omega arith)
 
 mul-z : tie.Need-mul-z
 mul-z c = omega arith
@@ -25,7 +25,7 @@ mul-result : tie.Need-mul-result
 mul-result c = omega (arith, square c)
 
 mul-result-2 : tie.Need-mul-result-2
-mul-result-2 c = omega (arith, mul-le-mul {m₁ = z c} {n₂ = 4096 * 4096} {m₂ = 4096} (square c) (omega arith))
+mul-result-2 c = omega (arith, mul-le-mul {m₁ = z c} {n₂ = 16384 * 16384} {m₂ = 16384} (square c) (omega arith))
 
 spread-requires : tie.Need-spread-requires
 spread-requires c κs = tt
