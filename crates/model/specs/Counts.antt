@@ -31,6 +31,10 @@ unused s r = 0
 abbrev pub used : Loop → ℕ → Placing → Usage
 used l ii f s r = countOf s r (cellsOf l ii f)
 
+-- by one operation, started at t
+abbrev pub usedBy : ℕ → Op → ℕ → Usage
+usedBy ii p t s r = countOf s r (footprint ii p t)
+
 -- ---- room
 
 -- cell c is used above its capacity, by u and these cells

@@ -1,7 +1,7 @@
--- The first taken place of the conflict test is the model's at capacity 1, where the rows are the table of some cells. Assumes nothing.
+-- The first taken place of the conflict test is the model's at capacity 1, where the rows are the table of some cells, and where there are no rows at all. Assumes nothing.
 use mathlib.Core.Path.{_≡_, sym, ap, _∙_}
 use mathlib.Core.Bool.{Bool, true, _&&_, _||_}
-use mathlib.Core.List.{List}
+use mathlib.Core.List.{List, []}
 use Prim.Native.Nat.{ℕ, zero, suc, _+_, _-_, _%_, _≤_, _<_}
 use native.Mathlib.Decide.{decLe}
 use native.Mathlib.Nat.{zero-add, mod-lt}
@@ -12,24 +12,28 @@ use lib.ListN.{length, getD}
 use Rattle.model.specs.Loop.{Use, Op, noUse, useAt, OpOk}
 use Rattle.model.specs.Legality.{Cell, covers}
 use Rattle.model.specs.Table.{countOf, IsTable, digitOf, Digits}
-use Rattle.model.specs.Counts.{single, cyclesIn}
+use Rattle.model.specs.Counts.{single, Usage, cyclesIn}
 use Rattle.model.specs.Counts as counts
 use Rattle.model.proofs.Lists.{same-true}
 use Rattle.model.proofs.Firsts.{grid-same}
 use Rattle.model.proofs.Table.{digit-count}
 use Rattle.model.proofs.Cells.{cycles-again}
-use Rattle.reservation.specs.Place.{metAt, firstMet}
+use Rattle.reservation.specs.Place.{rowAt, metAt, firstMet}
+use Rattle.reservation.proofs.TakenCells.{digit-none}
 
-module _ {base : ℕ} (wide : 2 ≤ base) (ii : ℕ) (cells : List Cell) (rows : List ℕ) (t : IsTable base ii cells rows) (d : Digits 2 cells) (p : Op) (ok : OpOk p) (pos : 1 ≤ ii) (s : ℕ) where
-  -- a use meets a taken cell exactly where the cell has no room beside the table's and the use's own earlier ones
-  taken-bit : (k j : ℕ) → j < length (p .uses) → counts.takenAt single (λ a r. countOf a r cells) true ii s k (useAt p j) ≡ metAt base ii rows s k (useAt p j)
+-- where each row has the digits that u says, which are 0 or 1
+module _ (base ii : ℕ) (u : Usage) (rows : List ℕ) (p : Op) (pos : 1 ≤ ii) (s : ℕ)
+    (says : (k j : ℕ) → j < length (p .uses) → digitOf base (rowAt ii rows s k) (useAt p j .slot) ≡ u (useAt p j .slot) ((s + k) % ii))
+    (few : (a r : ℕ) → u a r < 2) where
+  -- a use meets a taken cell exactly where the cell has no room beside u and the use's own earlier ones
+  taken-bit : (k j : ℕ) → j < length (p .uses) → counts.takenAt single u true ii s k (useAt p j) ≡ metAt base ii rows s k (useAt p j)
   taken-bit k j l = pick (decLe (v .offset) k)
     where
       v : Use
       v = useAt p j
 
       bit : ℕ
-      bit = digitOf base (getD rows ((s + k) % ii) 0) (v .slot)
+      bit = digitOf base (rowAt ii rows s k) (v .slot)
 
       own : ℕ
       own = cyclesIn ii (s + v .offset) ((s + k) % ii) (k - v .offset)
@@ -45,14 +49,27 @@ module _ {base : ℕ} (wide : 2 ≤ base) (ii : ℕ) (cells : List Cell) (rows :
           ∙ same-true (leb ii (k - v .offset)) (leb (v .offset + ii) k)
           (λ q. le-leb (v .offset + ii) k (omega (arith, leb-true ii (k - v .offset) q))) (λ q. le-leb ii (k - v .offset) (omega (arith, leb-true (v .offset + ii) k q)))
 
-      pick : Dec (v .offset ≤ k) → counts.takenAt single (λ a r. countOf a r cells) true ii s k (useAt p j) ≡ metAt base ii rows s k (useAt p j)
+      pick : Dec (v .offset ≤ k) → counts.takenAt single u true ii s k (useAt p j) ≡ metAt base ii rows s k (useAt p j)
       pick (yes a) =
-          let n : bit ≡ countOf (v .slot) ((s + k) % ii) cells = digit-count base ii (v .slot) ((s + k) % ii) cells rows t (λ a r. omega (arith, d a r, wide)) (mod-lt (s + k) pos) (ok .each j l .slot-low) (ok .each j l .slot-high) in
+          let n : bit ≡ u (v .slot) ((s + k) % ii) = says k j l in
           ap (λ (b : Bool). covers k v && b)
-          (ap (λ (n : ℕ). leb 1 (n + own)) (sym n) ∙ either bit own (omega (arith, n, d (v .slot) ((s + k) % ii))) ∙ ap (λ (b : Bool). eqb bit 1 || b) (again a))
+          (ap (λ (n : ℕ). leb 1 (n + own)) (sym n) ∙ either bit own (omega (arith, n, few (v .slot) ((s + k) % ii))) ∙ ap (λ (b : Bool). eqb bit 1 || b) (again a))
       pick (no a) = rw (lt-leb (v .offset) k (omega arith))
 
   -- so both find the same first place
-  pub taken-same : counts.firstTaken single (λ a r. countOf a r cells) true ii p s ≡ firstMet base ii rows s (p .uses)
+  first-same : counts.firstTaken single u true ii p s ≡ firstMet base ii rows s (p .uses)
   unfolding firstMet counts.firstTaken
-  taken-same = grid-same _ (p .uses) noUse 16 (metAt base ii rows s) (λ k j l m. taken-bit k j m)
+  first-same = grid-same _ (p .uses) noUse 16 (metAt base ii rows s) (λ k j l m. taken-bit k j m)
+
+-- the rows are the table of some cells
+pub taken-same : {base : ℕ} → 2 ≤ base → (ii : ℕ) (cells : List Cell) (rows : List ℕ) → IsTable base ii cells rows → Digits 2 cells → (p : Op) → OpOk p → 1 ≤ ii → (s : ℕ)
+    → counts.firstTaken single (λ a r. countOf a r cells) true ii p s ≡ firstMet base ii rows s (p .uses)
+taken-same {base} wide ii cells rows t d p ok pos s =
+    first-same base ii (λ a r. countOf a r cells) rows p pos s
+    (λ k j l. digit-count base ii (useAt p j .slot) ((s + k) % ii) cells rows t (λ a r. omega (arith, d a r, wide)) (mod-lt (s + k) pos) (ok .each j l .slot-low) (ok .each j l .slot-high))
+    (λ a r. d a r)
+
+-- there are no rows: what is taken is the operation's own
+pub own-same : (base ii : ℕ) (p : Op) → 1 ≤ ii → (s : ℕ) → counts.firstTaken single counts.unused true ii p s ≡ firstMet base ii [] 0 (p .uses)
+unfolding firstMet
+own-same base ii p pos s = first-same base ii counts.unused [] p pos s (λ k j l. digit-none base (useAt p j .slot)) (λ a r. omega arith)

@@ -1,24 +1,27 @@
--- The conflict test's two searches: over the uses in one cycle, and over the cycles. Assumes nothing.
-use mathlib.Core.Path.{_≡_, refl, ap, _∙_}
-use mathlib.Core.Bool.{true, false, and-false, or-true, or-false}
+-- The two searches for a place: over the uses in one cycle, and over the cycles. Assumes nothing.
+use mathlib.Core.Path.{_≡_, refl, sym, ap, _∙_}
+use mathlib.Core.Bool.{Bool, true, false, and-false, or-true, or-false}
 use mathlib.Core.List.{List, [], _∷_}
 use mathlib.Core.Option.{Option, none, some}
-use Prim.Native.Nat.{ℕ, zero, suc, _+_, _≤_, _<_, max}
+use Prim.Native.Nat.{ℕ, zero, suc, _+_, _-_, _/_, _^_, _≤_, _<_, max}
+use native.Mathlib.Nat.{div-le-self, zero-mod}
 use native.Mathlib.Decide.{decLt}
 use native.Mathlib.Omega.{arith}
 use lib.Dec.{eqb, leb}
 use lib.ListN.{length, getD, take}
 use borrow.Author.Tests.{le-leb, lt-leb, lt-ltb, le-ltb, eq-eqb}
 use Rattle.model.specs.Lists.{first, maxOf}
-use Rattle.model.specs.Loop.{Use, noUse}
+use Rattle.model.specs.Loop.{Op, Use, noUse}
+use Rattle.model.specs.Legality.{covers}
 use Rattle.model.specs.Table.{digitOf}
-use Rattle.reservation.specs.Place.{metBy, metIn, cyclesOf, cycleIs, rowAt, metAt, firstMet, placeOf, placeIs}
+use Rattle.model.specs.Counts.{Capacity, Usage, takenAt, firstTaken}
+use Rattle.reservation.specs.Place.{metBy, metIn, cyclesOf, cycleIs, rowAt, metAt, firstMet, placeOf, placeIs, placeAt}
 use Rattle.reservation.specs.declared.Place.{Place}
 use Rattle.reservation.specs.declared.Place.the-variants.{Free, Taken}
 use Rattle.reservation.specs.declared.test.Cycle.{Cycle}
 use Rattle.reservation.specs.declared.test.Cycle.the-variants as cycle
 use Rattle.model.proofs.Lists.{at-any, first-none}
-use Rattle.model.proofs.Firsts.{grid-not, grid-at, none-grid}
+use Rattle.model.proofs.Firsts.{first-not, grid-not, grid-at, none-grid}
 
 -- what a use meets in cycle k, which falls into the row given
 module _ (base ii row k : ℕ) (u : Use) where
@@ -42,7 +45,17 @@ module _ (base ii row k : ℕ) (u : Use) where
   pub use-met : u .offset ≤ k → k < u .offset + u .duration → digitOf base row (u .slot) ≡ 1 → metBy base ii row k u ≡ true
   use-met p q e = rw (le-leb (u .offset) k p, lt-ltb k (u .offset + u .duration) q, eq-eqb (digitOf base row (u .slot)) 1 e)
 
--- and so nothing is found in a cycle past those that the uses cover
+-- a row of 0 has no bit set
+pub digit-none : (base s : ℕ) → digitOf base 0 s ≡ 0
+digit-none base s = let z : 0 / base ^ (s - 1) ≡ 0 = omega (arith, div-le-self 0 (base ^ (s - 1))) in rw z (zero-mod base)
+
+-- and so nothing is found in a cycle of such a row before the interval is over
+pub before-itself : (base ii k : ℕ) (us : List Use) → k < ii → metIn base ii 0 k us ≡ none
+unfolding metIn
+before-itself base ii k us h =
+    first-not (metBy base ii 0 k) us noUse (λ j l. let u = getD us j noUse in rw (digit-none base (u .slot), lt-leb (u .offset + ii) k (omega arith)) (and-false (covers k u)))
+
+-- nor in a cycle past those that the uses cover
 cycles-over : (base ii row k : ℕ) (us : List Use) → cyclesOf us ≤ k → metIn base ii row k us ≡ none
 unfolding metIn first maxOf
 cycles-over base ii row k [] h = refl
@@ -108,3 +121,29 @@ free-place r (some p) e q = let z : _≡_ {A = ℕ} 0 1 = cc in absurd (omega ar
 -- it finds a place: something is
 pub taken-place : (r : Place) (k t : ℕ) (o : Option (ℕ × Use)) → placeOf r ≡ placeIs o → r ≡ Taken k t → o ≡ none → ⊥
 taken-place r k t o e q z = let y : _≡_ {A = ℕ} 0 1 = cc in omega arith
+
+-- ---- what is said of the cycles of a place of the model
+
+-- nothing is found in a cycle: nothing is taken in it
+pub free-at : (r : Place) (k : ℕ) (o : Option Use) → placeOf r ≡ placeAt k o → r ≡ Free → o ≡ none
+free-at r k none e q = refl
+free-at r k (some u) e q = let z : _≡_ {A = ℕ} 0 1 = cc in absurd (omega arith)
+
+module _ (cap : Capacity) (u : Usage) (own : Bool) (ii : ℕ) (p : Op) (t : ℕ) where
+  -- what is taken first in cycle k
+  abbrev pub takenIn : ℕ → Option Use
+  takenIn k = first (takenAt cap u own ii t k) (p .uses)
+
+  -- nothing in any cycle
+  pub found-none : ((k : ℕ) → k < 16 → takenIn k ≡ none) → placeIs (firstTaken cap u own ii p t) ≡ none
+  unfolding firstTaken
+  found-none h = ap placeIs (grid-not (takenAt cap u own ii t) (p .uses) 16 h)
+
+  -- nothing in those below k, and in k the place that r says
+  pub found-at : (k : ℕ) (r : Place) (x y : ℕ) → k < 16 → ((j : ℕ) → j < k → takenIn j ≡ none) → placeOf r ≡ placeAt k (takenIn k) → r ≡ Taken x y → placeOf r ≡ placeIs (firstTaken cap u own ii p t)
+  unfolding firstTaken
+  found-at k r x y l h e q = pick (takenIn k) refl e
+    where
+      pick : (o : Option Use) → takenIn k ≡ o → placeOf r ≡ placeAt k o → placeOf r ≡ placeIs (firstTaken cap u own ii p t)
+      pick none f g = let z : _≡_ {A = ℕ} 0 1 = cc in absurd (omega arith)
+      pick (some v) f g = g ∙ sym (ap placeIs (grid-at (takenAt cap u own ii t) (p .uses) 16 k v l h f))

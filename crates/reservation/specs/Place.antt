@@ -10,6 +10,7 @@ use Rattle.model.specs.Lists.{upFrom, first, maxOf}
 use Rattle.model.specs.Loop.{Use, Op}
 use Rattle.model.specs.Legality.{covers}
 use Rattle.model.specs.Table.{rowBase, digitOf}
+use Rattle.model.specs.Counts.{single, unused, firstTaken}
 use Rattle.reservation.specs.declared.Place.{Place}
 use Rattle.reservation.specs.declared.Place.the-variants.{Free, Taken}
 use Rattle.reservation.specs.declared.test.Cycle.{Cycle}
@@ -53,6 +54,15 @@ placeOf (Taken k s) = some (k, s)
 abbrev pub placeIs : Option (ℕ × Use) → Option (ℕ × ℕ)
 placeIs none = none
 placeIs (some p) = some (p .0, p .1 .slot)
+
+-- the same of cycle k alone
+abbrev pub placeAt : ℕ → Option Use → Option (ℕ × ℕ)
+placeAt k none = none
+placeAt k (some u) = some (k, u .slot)
+
+-- r says the first place in which operation p, wherever it is started, meets a cell that it covers itself in an earlier cycle
+abbrev pub OwnPlace : ℕ → Op → Place → Type 0
+OwnPlace ii p r = (s : ℕ) → placeOf r ≡ placeIs (firstTaken single unused true ii p s)
 
 -- the rows are free for operation p, started at s: nothing is taken
 abbrev pub FreeAt : ℕ → List ℕ → Op → ℕ → Type 0

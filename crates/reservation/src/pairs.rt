@@ -1,16 +1,21 @@
 // Two operations at given starts: whether they meet in a cell; and one against itself. Internal: each function asks for an accepted file, and for starts and an interval in range.
+use crate::Place;
 use loop_access::duration;
 use loop_access::first_use;
 use loop_access::offset;
 use loop_access::slot;
 use loop_access::use_count;
 ghost use mathlib.Core.Path.{_≡_};
+ghost use mathlib.Core.Bool.{false};
 ghost use Prim.Native.Nat.{_<_, _≤_};
 ghost use lib.ListN.{length, getD};
+ghost use Rattle.model.specs.Lists.{first};
 ghost use Rattle.model.specs.Loop.{noUse, size, opAt, allUses};
 ghost use Rattle.model.specs.File.{loopOf, Accepted};
 ghost use Rattle.model.specs.Legality as legality;
+ghost use Rattle.model.specs.Counts.{single, usedBy, takenAt, firstTaken};
 ghost use Rattle.reservation.specs.Overlaps.{coversCell, useMeets};
+ghost use Rattle.reservation.specs.Place.{placeOf, placeAt, placeIs};
 
 // Whether an operation started at `start` covers the slot in the row.
 pub fn covers(
@@ -73,6 +78,78 @@ pub fn overlap(file: &[u8], a: usize, from: usize, b: usize, to: usize, interval
         j = j + 1;
     }
     false
+}
+
+// Whether use u, of an operation started at `to`, meets operation a, started at `from`, in cycle k.
+fn shares(
+    file: &[u8],
+    a: usize,
+    from: usize,
+    u: usize,
+    to: usize,
+    k: usize,
+    interval: usize,
+) -> bool
+    requires { ⌜ Accepted (now file) × (a < size (loopOf (now file))) × (u < length (allUses (loopOf (now file)))) × (from < 4096) × (to < 4096) × (k < 16) × (1 ≤ interval) × (interval ≤ 4096) ⌝ }
+    ensures { λ r. ⌜ r ≡ takenAt single (usedBy interval (opAt (loopOf (now (file .entry))) a) from) false interval to k (getD (allUses (loopOf (now (file .entry)))) u noUse) ⌝ }
+{
+    let begin = offset(file, u);
+    if k < begin {
+        return false;
+    }
+    if begin + duration(file, u) <= k {
+        return false;
+    }
+    covers(file, a, from, slot(file, u), (to + k) % interval, interval)
+}
+
+// The lowest slot in which operation b, started at `to`, meets operation a, started at `from`, in cycle k of b.
+fn shared_in(
+    file: &[u8],
+    a: usize,
+    from: usize,
+    b: usize,
+    to: usize,
+    k: usize,
+    interval: usize,
+) -> Place
+    requires { ⌜ Accepted (now file) × (a < size (loopOf (now file))) × (b < size (loopOf (now file))) × (from < 4096) × (to < 4096) × (k < 16) × (1 ≤ interval) × (interval ≤ 4096) ⌝ }
+    ensures { λ r. ⌜ placeOf r ≡ placeAt k (first (takenAt single (usedBy interval (opAt (loopOf (now (file .entry))) a) from) false interval to k) (opAt (loopOf (now (file .entry))) b .uses)) ⌝ }
+{
+    let first = first_use(file, b);
+    let n = use_count(file, b);
+    let mut j = 0;
+    while j < n {
+        let u = first + j;
+        if shares(file, a, from, u, to, k, interval) {
+            return Place::Taken(k, slot(file, u));
+        }
+        j = j + 1;
+    }
+    Place::Free
+}
+
+// The first place in which operation b, started at `to`, meets operation a, started at `from`.
+pub fn shared_place(
+    file: &[u8],
+    a: usize,
+    from: usize,
+    b: usize,
+    to: usize,
+    interval: usize,
+) -> Place
+    requires { ⌜ Accepted (now file) × (a < size (loopOf (now file))) × (b < size (loopOf (now file))) × (from < 4096) × (to < 4096) × (1 ≤ interval) × (interval ≤ 4096) ⌝ }
+    ensures { λ r. ⌜ placeOf r ≡ placeIs (firstTaken single (usedBy interval (opAt (loopOf (now (file .entry))) a) from) false interval (opAt (loopOf (now (file .entry))) b) to) ⌝ }
+{
+    let mut k = 0;
+    while k < 16 {
+        let place = shared_in(file, a, from, b, to, k, interval);
+        let Place::Free = place else {
+            return place;
+        };
+        k = k + 1;
+    }
+    Place::Free
 }
 
 // Whether an operation conflicts with itself: a use of it is longer than the interval.

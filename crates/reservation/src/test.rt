@@ -11,7 +11,7 @@ ghost use lib.ListN.{length, getD};
 ghost use Rattle.model.specs.Loop.{noUse, size, opAt, allUses, firstUseOf};
 ghost use Rattle.model.specs.File.{loopOf, Accepted};
 ghost use Rattle.model.specs.Table.{rowBase};
-ghost use Rattle.reservation.specs.Place.{metBy, metIn, cyclesOf, cycleIs, firstMet, placeOf, placeIs, FreeIs};
+ghost use Rattle.reservation.specs.Place.{metBy, metIn, cyclesOf, cycleIs, firstMet, placeOf, placeIs, OwnPlace, FreeIs};
 
 // Whether use u of all meets a taken cell in cycle k of its operation, which falls into the row given.
 fn taken(file: &[u8], u: usize, k: usize, interval: usize, row: u64) -> bool
@@ -105,4 +105,26 @@ pub fn is_free(
         return true;
     }
     false
+}
+
+// The first place in which the operation, wherever it is started, meets a cell that it covers itself in an earlier cycle. That is never before cycle `interval`, and mostly nothing is left to look at.
+pub fn own_place(file: &[u8], op: usize, first: usize, interval: usize) -> Place
+    requires { ⌜ Accepted (now file) × (op < size (loopOf (now file))) × (1 ≤ interval) × (interval ≤ 4096) × (first ≡ firstUseOf (loopOf (now file)) op) ⌝ }
+    ensures { λ r. ⌜ OwnPlace interval (opAt (loopOf (now (file .entry))) op) r ⌝ }
+{
+    let mut most = 16;
+    let mut k = interval;
+    while k < most {
+        let c = taken_in(file, op, first, k, interval, 0);
+        match c {
+            Cycle::Taken(s) => {
+                return Place::Taken(k, s);
+            }
+            Cycle::Free(m) => {
+                most = m;
+            }
+        }
+        k = k + 1;
+    }
+    Place::Free
 }
