@@ -57,19 +57,19 @@ module _ (base ii : ℕ) (u : Usage) (rows : List ℕ) (p : Op) (pos : 1 ≤ ii)
       pick (no a) = rw (lt-leb (v .offset) k (omega arith))
 
   -- so both find the same first place
-  first-same : counts.firstTaken single u true ii p s ≡ firstMet base ii rows s (p .uses)
+  digits-same : counts.firstTaken single u true ii p s ≡ firstMet base ii rows s (p .uses)
   unfolding firstMet counts.firstTaken
-  first-same = grid-same _ (p .uses) noUse 16 (metAt base ii rows s) (λ k j l m. taken-bit k j m)
+  digits-same = grid-same _ (p .uses) noUse 16 (metAt base ii rows s) (λ k j l m. taken-bit k j m)
 
 -- the rows are the table of some cells
 pub taken-same : {base : ℕ} → 2 ≤ base → (ii : ℕ) (cells : List Cell) (rows : List ℕ) → IsTable base ii cells rows → Digits 2 cells → (p : Op) → OpOk p → 1 ≤ ii → (s : ℕ)
     → counts.firstTaken single (λ a r. countOf a r cells) true ii p s ≡ firstMet base ii rows s (p .uses)
 taken-same {base} wide ii cells rows t d p ok pos s =
-    first-same base ii (λ a r. countOf a r cells) rows p pos s
+    digits-same base ii (λ a r. countOf a r cells) rows p pos s
     (λ k j l. digit-count base ii (useAt p j .slot) ((s + k) % ii) cells rows t (λ a r. omega (arith, d a r, wide)) (mod-lt (s + k) pos) (ok .each j l .slot-low) (ok .each j l .slot-high))
     (λ a r. d a r)
 
 -- there are no rows: what is taken is the operation's own
 pub own-same : (base ii : ℕ) (p : Op) → 1 ≤ ii → (s : ℕ) → counts.firstTaken single counts.unused true ii p s ≡ firstMet base ii [] 0 (p .uses)
 unfolding firstMet
-own-same base ii p pos s = first-same base ii counts.unused [] p pos s (λ k j l. digit-none base (useAt p j .slot)) (λ a r. omega arith)
+own-same base ii p pos s = digits-same base ii counts.unused [] p pos s (λ k j l. digit-none base (useAt p j .slot)) (λ a r. omega arith)

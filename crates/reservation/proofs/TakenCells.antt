@@ -15,7 +15,7 @@ use Rattle.model.specs.Loop.{Op, Use, noUse}
 use Rattle.model.specs.Legality.{covers}
 use Rattle.model.specs.Table.{digitOf}
 use Rattle.model.specs.Counts.{Capacity, Usage, takenAt, firstTaken}
-use Rattle.reservation.specs.Place.{metBy, metIn, cyclesOf, cycleIs, rowAt, metAt, firstMet, placeOf, placeIs, placeAt}
+use Rattle.reservation.specs.Place.{metBy, metIn, cyclesOf, cycleIs, rowAt, metAt, firstMet, placeOf, placeIs, placeInCycle}
 use Rattle.reservation.specs.declared.Place.{Place}
 use Rattle.reservation.specs.declared.Place.the-variants.{Free, Taken}
 use Rattle.reservation.specs.declared.test.Cycle.{Cycle}
@@ -125,7 +125,7 @@ taken-place r k t o e q z = let y : _≡_ {A = ℕ} 0 1 = cc in omega arith
 -- ---- what is said of the cycles of a place of the model
 
 -- nothing is found in a cycle: nothing is taken in it
-pub free-at : (r : Place) (k : ℕ) (o : Option Use) → placeOf r ≡ placeAt k o → r ≡ Free → o ≡ none
+pub free-at : (r : Place) (k : ℕ) (o : Option Use) → placeOf r ≡ placeInCycle k o → r ≡ Free → o ≡ none
 free-at r k none e q = refl
 free-at r k (some u) e q = let z : _≡_ {A = ℕ} 0 1 = cc in absurd (omega arith)
 
@@ -135,15 +135,15 @@ module _ (cap : Capacity) (u : Usage) (own : Bool) (ii : ℕ) (p : Op) (t : ℕ)
   takenIn k = first (takenAt cap u own ii t k) (p .uses)
 
   -- nothing in any cycle
-  pub found-none : ((k : ℕ) → k < 16 → takenIn k ≡ none) → placeIs (firstTaken cap u own ii p t) ≡ none
+  pub cycles-none : ((k : ℕ) → k < 16 → takenIn k ≡ none) → placeIs (firstTaken cap u own ii p t) ≡ none
   unfolding firstTaken
-  found-none h = ap placeIs (grid-not (takenAt cap u own ii t) (p .uses) 16 h)
+  cycles-none h = ap placeIs (grid-not (takenAt cap u own ii t) (p .uses) 16 h)
 
   -- nothing in those below k, and in k the place that r says
-  pub found-at : (k : ℕ) (r : Place) (x y : ℕ) → k < 16 → ((j : ℕ) → j < k → takenIn j ≡ none) → placeOf r ≡ placeAt k (takenIn k) → r ≡ Taken x y → placeOf r ≡ placeIs (firstTaken cap u own ii p t)
+  pub cycles-found : (k : ℕ) (r : Place) (x y : ℕ) → k < 16 → ((j : ℕ) → j < k → takenIn j ≡ none) → placeOf r ≡ placeInCycle k (takenIn k) → r ≡ Taken x y → placeOf r ≡ placeIs (firstTaken cap u own ii p t)
   unfolding firstTaken
-  found-at k r x y l h e q = pick (takenIn k) refl e
+  cycles-found k r x y l h e q = pick (takenIn k) refl e
     where
-      pick : (o : Option Use) → takenIn k ≡ o → placeOf r ≡ placeAt k o → placeOf r ≡ placeIs (firstTaken cap u own ii p t)
+      pick : (o : Option Use) → takenIn k ≡ o → placeOf r ≡ placeInCycle k o → placeOf r ≡ placeIs (firstTaken cap u own ii p t)
       pick none f g = let z : _≡_ {A = ℕ} 0 1 = cc in absurd (omega arith)
       pick (some v) f g = g ∙ sym (ap placeIs (grid-at (takenAt cap u own ii t) (p .uses) 16 k v l h f))

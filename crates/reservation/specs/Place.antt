@@ -56,9 +56,9 @@ placeIs none = none
 placeIs (some p) = some (p .0, p .1 .slot)
 
 -- the same of cycle k alone
-abbrev pub placeAt : ℕ → Option Use → Option (ℕ × ℕ)
-placeAt k none = none
-placeAt k (some u) = some (k, u .slot)
+abbrev pub placeInCycle : ℕ → Option Use → Option (ℕ × ℕ)
+placeInCycle k none = none
+placeInCycle k (some u) = some (k, u .slot)
 
 -- r says the first place in which operation p, wherever it is started, meets a cell that it covers itself in an earlier cycle
 abbrev pub OwnPlace : ℕ → Op → Place → Type 0

@@ -15,7 +15,7 @@ ghost use Rattle.model.specs.File.{loopOf, Accepted};
 ghost use Rattle.model.specs.Legality as legality;
 ghost use Rattle.model.specs.Counts.{single, usedBy, takenAt, firstTaken};
 ghost use Rattle.reservation.specs.Overlaps.{coversCell, useMeets};
-ghost use Rattle.reservation.specs.Place.{placeOf, placeAt, placeIs};
+ghost use Rattle.reservation.specs.Place.{placeOf, placeInCycle, placeIs};
 
 // Whether an operation started at `start` covers the slot in the row.
 pub fn covers(
@@ -114,7 +114,7 @@ fn shared_in(
     interval: usize,
 ) -> Place
     requires { ⌜ Accepted (now file) × (a < size (loopOf (now file))) × (b < size (loopOf (now file))) × (from < 4096) × (to < 4096) × (k < 16) × (1 ≤ interval) × (interval ≤ 4096) ⌝ }
-    ensures { λ r. ⌜ placeOf r ≡ placeAt k (first (takenAt single (usedBy interval (opAt (loopOf (now (file .entry))) a) from) false interval to k) (opAt (loopOf (now (file .entry))) b .uses)) ⌝ }
+    ensures { λ r. ⌜ placeOf r ≡ placeInCycle k (first (takenAt single (usedBy interval (opAt (loopOf (now (file .entry))) a) from) false interval to k) (opAt (loopOf (now (file .entry))) b .uses)) ⌝ }
 {
     let first = first_use(file, b);
     let n = use_count(file, b);

@@ -12,7 +12,7 @@ use Rattle.model.specs.Loop.{Op, Use, noUse, opAt, useAt}
 use Rattle.model.specs.File.{loopOf}
 use Rattle.model.specs.Counts.{single, usedBy, takenAt}
 use Rattle.model.proofs.Firsts.{first-at, first-not}
-use Rattle.reservation.specs.Place.{placeAt}
+use Rattle.reservation.specs.Place.{placeInCycle}
 use Rattle.reservation.proofs.UseNumbers.{UseHere, use-here}
 use Rattle.reservation.proofs.pairs.shared_in.Statement.{statement}
 use Rattle.reservation.proofs.pairs.shared_in.Tie as tie
@@ -75,7 +75,7 @@ returns c =
     let h = i .before in
     let k = start h .args .k in
     let found = first-at (test h) (op h .uses) noUse (h .loop .j) (omega (arith, h .before .use-count .ensures)) (h .loop .inv .1) (sym (told b) ∙ c .before .if1 .taken) in
-    ap (λ (x : ℕ). some (k, x)) (c .slot .ensures ∙ ap (λ (u : Use). u .slot) (here i .is)) ∙ sym (ap (placeAt k) found)
+    ap (λ (x : ℕ). some (k, x)) (c .slot .ensures ∙ ap (λ (u : Use). u .slot) (here i .is)) ∙ sym (ap (placeInCycle k) found)
 
 add-j : tie.Need-add-j Inv-loop μ-loop
 add-j c = omega arith
@@ -92,7 +92,7 @@ loop-again c =
 returns-2 : tie.Need-returns-2 Inv-loop μ-loop
 returns-2 c =
     let h = c .before in
-    sym (ap (placeAt (start h .args .k)) (first-not (test h) (op h .uses) noUse (λ i l. h .loop .inv .1 i (omega (arith, h .before .use-count .ensures)))))
+    sym (ap (placeInCycle (start h .args .k)) (first-not (test h) (op h .uses) noUse (λ i l. h .loop .inv .1 i (omega (arith, h .before .use-count .ensures)))))
 
 pub shared-in-spec : {M : Type 1} → statement M
 shared-in-spec =

@@ -9,7 +9,7 @@ use borrow.Author.Count.{below-more}
 use Rattle.model.specs.Loop.{opAt}
 use Rattle.model.specs.File.{loopOf}
 use Rattle.model.specs.Counts.{single, usedBy}
-use Rattle.reservation.proofs.TakenCells.{takenIn, free-at, found-none, found-at}
+use Rattle.reservation.proofs.TakenCells.{takenIn, free-at, cycles-none, cycles-found}
 use Rattle.reservation.proofs.pairs.shared_place.Statement.{statement}
 use Rattle.reservation.proofs.pairs.shared_place.Tie as tie
 
@@ -45,7 +45,7 @@ returns c =
     let h = b .before .before in
     let a = start h .args in
     let l = loopOf (a .file .now) in
-    found-at single (usedBy (a .interval) (opAt l (a .a)) (a .from)) false (a .interval) (opAt l (a .b)) (a .to) (h .loop .k) (b .shared-in .result) _ _
+    cycles-found single (usedBy (a .interval) (opAt l (a .a)) (a .from)) false (a .interval) (opAt l (a .b)) (a .to) (h .loop .k) (b .shared-in .result) _ _
     (early (b .before)) (h .loop .inv .1) (b .shared-in .ensures) (c .enum-told2 .given .1)
 
 add-k : tie.Need-add-k Inv-loop μ-loop
@@ -65,7 +65,7 @@ returns-2 c =
     let h = c .before in
     let a = start h .args in
     let l = loopOf (a .file .now) in
-    sym (found-none single (usedBy (a .interval) (opAt l (a .a)) (a .from)) false (a .interval) (opAt l (a .b)) (a .to) (λ k l. h .loop .inv .1 k (omega arith)))
+    sym (cycles-none single (usedBy (a .interval) (opAt l (a .a)) (a .from)) false (a .interval) (opAt l (a .b)) (a .to) (λ k l. h .loop .inv .1 k (omega arith)))
 
 pub shared-place-spec : {M : Type 1} → statement M
 shared-place-spec =
