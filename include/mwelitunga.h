@@ -53,12 +53,22 @@ extern "C" {
 #define MW_REFUSED_NOT_PLACED 14      /* the operation is not placed: its number */
 #define MW_REFUSED_START 15           /* a start is not below the horizon: the operation; of mw_verify, the first whose start is not below 4096 */
 #define MW_REFUSED_BROKEN 16          /* the start breaks a dependence: the first such dependence */
-#define MW_REFUSED_CONFLICT 17        /* the operation conflicts with itself or with a placed one: 0 */
+#define MW_REFUSED_CONFLICT 17        /* the operation conflicts with itself or with a placed one: the number of the place, see below */
 #define MW_REFUSED_CHECKPOINTS 18     /* 16 checkpoints are open already: 0 */
 #define MW_REFUSED_NO_CHECKPOINT 19   /* there is no such checkpoint: 0 */
 #define MW_REFUSED_ROOM 20            /* a list that is shorter than the operations, or too few rows: the length that was passed */
 #define MW_REFUSED_REPLIES 254        /* mw_session: `replies` has room for fewer than two numbers a call: the length that was passed */
 #define MW_REFUSED_CALLS 255          /* mw_session: a call of no kind: its number from 0; numbers left over at the end: the number of whole calls */
+
+/* The place of a conflict, as one number: where an operation meets a taken cell. A cell is a slot in a row, that is in a cycle modulo the
+ * interval. The number is the detail of MW_REFUSED_CONFLICT, and answer[4] of mw_verify for MW_VERDICT_CONFLICT.
+ *
+ * number / 32 is the cycle, 0 to 15, counted from the operation's start; number % 32 is the slot, 1 to 24. It is the first such cycle and,
+ * in that cycle, the lowest such slot. The row of the cell is (start + cycle) % interval. What is taken:
+ * - of MW_CALL_PLACE, what the placed operations cover, and what the operation itself covers in an earlier cycle;
+ * - of MW_CALL_FORCE, only what the operation itself covers in an earlier cycle;
+ * - of a pair of mw_verify, what the first operation covers; cycle and slot are those of the second. Of twice the same operation, what it
+ *   covers itself in an earlier cycle. */
 
 /* The verdicts of mw_verify. */
 #define MW_VERDICT_LEGAL 0
@@ -94,7 +104,8 @@ size_t mw_bounds(const uint8_t *file, size_t file_length, uint64_t answer[8]);
  * answer[1]: MW_VERDICT_LEGAL;
  *   or MW_VERDICT_BROKEN, where a dependence does not hold: the first one's number is answer[2];
  *   or MW_VERDICT_CONFLICT, where all hold and two operations take one slot in one cycle, counted modulo the interval: the first such
- *   pair is answer[2], answer[3], twice the same operation where it holds a slot for longer than the interval.
+ *   pair is answer[2], answer[3], twice the same operation where it holds a slot for longer than the interval; and answer[4] is the
+ *   number of the place in which the second meets the first.
  * Refusals: 1 to 6; 7, where the interval is not 1 to 4096; 20; 15. */
 size_t mw_verify(
     const uint8_t *file, size_t file_length, size_t interval, const uint16_t *starts, size_t starts_length,
@@ -153,8 +164,8 @@ size_t mw_order(size_t interval, const uint16_t *starts, size_t starts_length, s
  *
  * replies[2 i], replies[2 i + 1]: the answer of call i, from 0. 0 and a value where it was done: for MW_CALL_FORCE the operations that were
  *   taken out, bit k for operation k; for MW_CALL_CHECKPOINT the number of the new checkpoint, 1 to 16; else 0. Where it was refused, the
- *   refusal's number and its detail, and the call changed nothing: 12, 13, 15, 16, 17 of placing and forcing; 12, 14 of removing; 18 of
- *   a checkpoint; 19 of releasing and rolling back.
+ *   refusal's number and its detail, and the call changed nothing: 12, 13, 15, 16, 17 of placing and forcing (the detail of 17 is the
+ *   number of the place); 12, 14 of removing; 18 of a checkpoint; 19 of releasing and rolling back.
  * answer[1]: the number of calls. answer[2]: how many checkpoints are open after the last.
  * Refusals, before any call is made: 255, 254; 1 to 6; 7, where the interval (1) or the horizon (2) is out of range; 20.
  *

@@ -1,12 +1,14 @@
-/* Prints the schedule of a loop file, or the refusal, by the C functions of the library.
+/* Prints the schedule of a loop file, the verdict on starts for it, or the refusal, by the C functions of the library.
  *
- *     schedule FILE           the schedule that mw_search finds
- *     schedule plan FILE      the plan of mw_plan, with `smallest` or `legal` in place of the probes
+ *     schedule FILE                             the schedule that mw_search finds
+ *     schedule plan FILE                        the plan of mw_plan, with `smallest` or `legal` in place of the probes
+ *     schedule verify FILE INTERVAL START..     the verdict of mw_verify on these starts, one for each operation
  *
- * The status is 0 where the file was read, schedule or refusal, and 1 where it was not. */
+ * The status is 0 where the file was read, whatever the answer, and 1 where it was not. */
 #include <errno.h>
 #include <inttypes.h>
 #include <stdio.h>
+#include <stdlib.h>
 #include <string.h>
 
 #include "mwelitunga.h"
@@ -19,10 +21,34 @@ static uint8_t file[MW_FILE_MOST + 1];
 static uint16_t starts[MW_OPERATIONS_MOST];
 static uint64_t rows[MW_SEARCH_ROWS];
 
+/* Says on standard error how the program is called. */
+static int usage(void) {
+    fprintf(stderr, "usage: schedule [plan] FILE\n       schedule verify FILE INTERVAL START..\n");
+    return 1;
+}
+
 /* Says on standard error why the file was not read. */
 static int not_read(const char *name) {
     fprintf(stderr, "schedule: cannot read %s: %s\n", name, strerror(errno));
     return 1;
+}
+
+/* Reads the file, and tells its length. */
+static int read_file(const char *name, size_t *length) {
+    FILE *from = fopen(name, "rb");
+    if (from == NULL) {
+        return not_read(name);
+    }
+    *length = fread(file, 1, sizeof file, from);
+    if (ferror(from)) {
+        return not_read(name);
+    }
+    fclose(from);
+    return 0;
+}
+
+static void print_refusal(size_t refusal, const uint64_t answer[8]) {
+    printf("refused %zu at %" PRIu64 "\n", refusal, answer[0]);
 }
 
 /* A line for each of the n operations. */
@@ -34,29 +60,14 @@ static void list_operations(size_t interval, size_t n) {
     }
 }
 
-int main(int argc, char **argv) {
-    int planned = argc == 3 && strcmp(argv[1], "plan") == 0;
-    if (argc != 2 && !planned) {
-        fprintf(stderr, "usage: schedule [plan] FILE\n");
-        return 1;
-    }
-    const char *name = argv[argc - 1];
-    FILE *from = fopen(name, "rb");
-    if (from == NULL) {
-        return not_read(name);
-    }
-    size_t length = fread(file, 1, sizeof file, from);
-    if (ferror(from)) {
-        return not_read(name);
-    }
-    fclose(from);
-
+/* The schedule or the plan of the file. */
+static void schedule(size_t length, int planned) {
     uint64_t found[8];
     size_t refusal = (planned ? mw_plan : mw_search)(file, length, CAP, HORIZON, BUDGET, starts, MW_OPERATIONS_MOST, rows,
                                                      MW_SEARCH_ROWS, found);
     if (refusal != 0) {
-        printf("refused %zu at %" PRIu64 "\n", refusal, found[0]);
-        return 0;
+        print_refusal(refusal, found);
+        return;
     }
     printf("interval %" PRIu64 " resource %" PRIu64 " recurrence %" PRIu64 " stages %" PRIu64, found[1], found[2],
            found[3], found[4]);
@@ -70,5 +81,72 @@ int main(int argc, char **argv) {
     uint64_t counts[8];
     mw_read(file, length, counts);
     list_operations(found[1], counts[1]);
+}
+
+/* The verdict on the first n starts. */
+static void verify(size_t length, size_t interval, size_t n) {
+    uint64_t answer[8];
+    size_t refusal = mw_verify(file, length, interval, starts, n, answer);
+    if (refusal != 0) {
+        print_refusal(refusal, answer);
+    } else if (answer[1] == MW_VERDICT_LEGAL) {
+        printf("legal\n");
+    } else if (answer[1] == MW_VERDICT_BROKEN) {
+        printf("dependence %" PRIu64 " is broken\n", answer[2]);
+    } else {
+        /* The place of the conflict: a cycle of the second operation, and a slot. */
+        uint64_t first = answer[2], second = answer[3], cycle = answer[4] / 32, slot = answer[4] % 32;
+        if (first == second) {
+            printf("operation %" PRIu64 " conflicts with itself, in its cycle %" PRIu64 ", slot %" PRIu64 "\n", first, cycle,
+                   slot);
+        } else {
+            printf("operations %" PRIu64 " and %" PRIu64 " conflict, in cycle %" PRIu64 " of operation %" PRIu64
+                   ", slot %" PRIu64 "\n",
+                   first, second, cycle, second, slot);
+        }
+    }
+}
+
+/* A number from 0 to 65535 in decimal digits, or -1. */
+static long number(const char *word) {
+    size_t digits = strspn(word, "0123456789");
+    if (digits == 0 || digits > 5 || word[digits] != '\0') {
+        return -1;
+    }
+    long value = strtol(word, NULL, 10);
+    return value <= UINT16_MAX ? value : -1;
+}
+
+/* Takes an interval and starts, n words in all, from the command line; 0 where a word is no such number. */
+static int take_proposal(int n, char **words, size_t *interval) {
+    for (int i = 0; i < n; i++) {
+        long value = number(words[i]);
+        if (value < 0) {
+            return 0;
+        }
+        if (i == 0) {
+            *interval = (size_t)value;
+        } else {
+            starts[i - 1] = (uint16_t)value;
+        }
+    }
+    return 1;
+}
+
+int main(int argc, char **argv) {
+    int planned = argc == 3 && strcmp(argv[1], "plan") == 0;
+    int verified = argc > 3 && argc - 4 <= MW_OPERATIONS_MOST && strcmp(argv[1], "verify") == 0;
+    size_t interval = 0, length = 0;
+    if ((argc != 2 && !planned && !verified) || (verified && !take_proposal(argc - 3, argv + 3, &interval))) {
+        return usage();
+    }
+    if (read_file(argv[argc == 2 ? 1 : 2], &length) != 0) {
+        return 1;
+    }
+    if (verified) {
+        verify(length, interval, (size_t)argc - 4);
+    } else {
+        schedule(length, planned);
+    }
     return 0;
 }

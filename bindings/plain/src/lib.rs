@@ -8,7 +8,7 @@
 //! | [`file`] | what a loop file describes, and how it is read | 1 to 6 |
 //! | [`writer`] | how a loop file is written | |
 //! | [`bounds`] | the two lower bounds of the interval | 8, 9 |
-//! | [`legality`] | whether a dependence holds, whether operations conflict | |
+//! | [`legality`] | whether a dependence holds, whether operations conflict, and in which place | |
 //! | [`table`] | the rows, in which operations take their slots | |
 //! | [`places`] | stage, cycle and order of an operation, the number of stages | |
 //! | [`verifier`] | the verdict on a list of starts | 7, 20, 15 |

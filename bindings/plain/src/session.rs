@@ -2,6 +2,7 @@
 //! operations that come or go and no others; a refused call changes nothing.
 
 use super::file::{read, Dependence, Operation, OPERATIONS_MOST};
+use super::legality::Place;
 use super::{check, check_range, refused, Refusal, LONGEST};
 
 /// The start of an operation that is not placed.
@@ -70,8 +71,7 @@ impl<'a> Session<'a> {
     pub fn place(&mut self, op: usize, start: usize) -> Result<(), Refusal> {
         let start = self.check_free(op, start)?;
         self.check_dependences(op, start, |_| true)?;
-        let fits = self.operations[op].fits(start.into(), self.rows);
-        check(fits, 17, 0)?;
+        check_conflict(self.operations[op].taken_place(start.into(), self.rows))?;
         self.put(op, start);
         Ok(())
     }
@@ -80,8 +80,7 @@ impl<'a> Session<'a> {
     pub fn force(&mut self, op: usize, start: usize) -> Result<u64, Refusal> {
         let start = self.check_free(op, start)?;
         self.check_dependences(op, start, |d| d.from == d.to)?;
-        let conflict = self.operations[op].conflicts_itself(self.rows.len());
-        check(!conflict, 17, 0)?;
+        check_conflict(self.operations[op].own_place(self.rows.len()))?;
         let displaced = self.in_the_way(op, start);
         for other in 0..self.operations.len() {
             if displaced & (1 << other) != 0 {
@@ -193,5 +192,13 @@ impl<'a> Session<'a> {
     fn take_out(&mut self, op: usize) {
         self.operations[op].release(self.starts[op].into(), self.rows);
         self.starts[op] = NOT_PLACED;
+    }
+}
+
+/// Refusal 17, with the first place in which an operation meets a taken cell, where there is one.
+fn check_conflict(place: Option<Place>) -> Result<(), Refusal> {
+    match place {
+        Some(place) => refused(17, place.number()),
+        None => Ok(()),
     }
 }

@@ -2,6 +2,7 @@
 //! operation covers the slot in that row.
 
 use super::file::{Operation, Use};
+use super::legality::Place;
 use std::ops::Range;
 
 impl Use {
@@ -13,6 +14,15 @@ impl Use {
     /// The rows in which the use covers its slot, from a start on.
     fn rows(&self, start: usize, interval: usize) -> impl Iterator<Item = usize> {
         (start..start + usize::from(self.duration)).map(move |cycle| cycle % interval)
+    }
+
+    /// The first place in which the use meets a taken row or, where it is longer than the interval, its own first one.
+    fn taken_place(&self, start: usize, rows: &[u64]) -> Option<Place> {
+        let mut covered = self.rows(start, rows.len()).enumerate();
+        let taken =
+            |&(cycle, row): &(usize, usize)| cycle == rows.len() || rows[row] & self.bit() != 0;
+        let (cycle, _) = covered.find(taken)?;
+        Some(self.place(cycle))
     }
 
     /// How many starts from this one on the table excludes; 0 where the use meets no taken row. One that it meets in cycle k
@@ -41,6 +51,14 @@ impl Operation {
                 && u.rows(start, rows.len())
                     .all(|row| rows[row] & u.bit() == 0)
         })
+    }
+
+    /// The first place in which the operation at a start meets what is in the table, or itself.
+    pub fn taken_place(&self, start: usize, rows: &[u64]) -> Option<Place> {
+        self.uses
+            .iter()
+            .filter_map(|u| u.taken_place(start, rows))
+            .min()
     }
 
     /// The first start of a range at which it conflicts with neither.

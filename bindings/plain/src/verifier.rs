@@ -1,6 +1,7 @@
 //! The verdict on a list of starts.
 
 use super::file::{read, Loop};
+use super::legality::Place;
 use super::{check, check_range, refused, Refusal, LONGEST};
 
 #[derive(Clone, Copy, Debug, PartialEq)]
@@ -10,10 +11,12 @@ pub enum Verdict {
     Broken {
         dependence: usize,
     },
-    /// The first two operations that conflict; twice the same where it conflicts with itself.
+    /// The first two operations that conflict, twice the same where it conflicts with itself; and the first place in which
+    /// the second meets the first.
     Conflict {
         first: usize,
         second: usize,
+        place: Place,
     },
 }
 
@@ -41,13 +44,17 @@ pub fn judge(code: &Loop, interval: usize, starts: &[u16]) -> Verdict {
     let ops = &code.operations;
     for first in 0..ops.len() {
         for second in first..ops.len() {
-            let conflict = if first == second {
-                ops[first].conflicts_itself(interval)
+            let place = if first == second {
+                ops[first].own_place(interval)
             } else {
-                ops[first].conflicts(starts[first], &ops[second], starts[second], interval)
+                ops[second].shared_place(starts[second], &ops[first], starts[first], interval)
             };
-            if conflict {
-                return Verdict::Conflict { first, second };
+            if let Some(place) = place {
+                return Verdict::Conflict {
+                    first,
+                    second,
+                    place,
+                };
             }
         }
     }

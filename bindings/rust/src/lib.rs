@@ -16,7 +16,7 @@
 //! | [`replay`] | a session, in which operations are placed, forced, removed and taken back |
 //!
 //! Every function takes any bytes and numbers whatever. What it cannot answer it refuses, by a [`Refusal`] with a number
-//! and a detail.
+//! and a detail. Where operations conflict, the verdict or the refusal says in which [`Place`].
 //!
 //! ```
 //! let file = [
@@ -44,6 +44,7 @@
 #![deny(unsafe_op_in_unsafe_fn)]
 
 mod bounds;
+mod conflict;
 mod file;
 mod places;
 mod plan;
@@ -54,6 +55,7 @@ pub mod sys;
 mod verifier;
 
 pub use bounds::{bounds, Bounds};
+pub use conflict::Place;
 pub use file::{read, Counts, FILE_MOST, OPERATIONS_MOST};
 pub use places::{cycle, order, stage};
 pub use plan::{plan, Plan};

@@ -4,6 +4,7 @@ use std::error::Error;
 use std::fmt;
 
 use crate::sys::Answer;
+use crate::Place;
 
 /// Why a call was refused: a number, and a detail whose meaning depends on the number.
 ///
@@ -65,7 +66,8 @@ pub enum Kind {
     Start = 15,
     /// The start breaks a dependence. Detail: the first such dependence.
     Broken = 16,
-    /// The operation conflicts with itself or with a placed one. Detail: 0.
+    /// The operation conflicts with itself or with a placed one. Detail: the number of the first [`Place`] in which it
+    /// does; [`Refusal::place`] has cycle and slot.
     Conflict = 17,
     /// 16 checkpoints are open already. Detail: 0.
     Checkpoints = 18,
@@ -139,6 +141,20 @@ impl Refusal {
         Kind::of(self.number)
     }
 
+    /// Where the operation conflicts: the cycle, counted from its start, and the slot. `None` for another refusal than
+    /// [`Kind::Conflict`].
+    ///
+    /// ```
+    /// use mwelitunga::{Place, Refusal};
+    ///
+    /// let refusal = Refusal { number: 17, detail: 35 };
+    /// assert_eq!(refusal.place(), Some(Place { cycle: 1, slot: 3 }));
+    /// assert_eq!(Refusal { number: 12, detail: 35 }.place(), None);
+    /// ```
+    pub fn place(&self) -> Option<Place> {
+        (self.kind() == Some(Kind::Conflict)).then(|| Place::of(self.detail))
+    }
+
     /// What a call has answered: nothing to say where its result is 0, and else the refusal.
     pub(crate) fn check(result: usize, answer: &Answer) -> Result<(), Refusal> {
         match result {
@@ -188,7 +204,8 @@ impl Refusal {
             Kind::Broken => write!(f, "the start breaks dependence {at}"),
             Kind::Conflict => write!(
                 f,
-                "the operation conflicts with itself or with a placed one"
+                "the operation conflicts with itself or with a placed one, in its {}",
+                Place::of(at)
             ),
             Kind::Checkpoints => write!(f, "16 checkpoints are open already"),
             Kind::NoCheckpoint => write!(f, "there is no such checkpoint"),

@@ -1,14 +1,30 @@
 //! The session: a reservation table in which operations are placed, forced, removed and taken back.
 
+use std::fmt;
+
 use crate::sys::{self, NOT_PLACED};
 use crate::{read, Refusal, OPERATIONS_MOST, SEARCH_ROWS};
 
 /// One call of a session. Any number may be given: what is out of range is refused.
+///
+/// Written out, a call names its operation, which a [`Refusal`] of it does not know:
+///
+/// ```
+/// use mwelitunga::{Call, Refusal};
+///
+/// let call = Call::Place { op: 2, start: 3 };
+/// let refusal = Refusal { number: 17, detail: 35 };
+/// assert_eq!(
+///     format!("{call}: {refusal}"),
+///     "place operation 2 at 3: the operation conflicts with itself or with a placed one, in its cycle 1, slot 3 (refused 17 at 35)"
+/// );
+/// ```
 #[derive(Clone, Copy, Debug, PartialEq, Eq, Hash)]
 pub enum Call {
     /// Places an operation where it breaks no dependence and conflicts with nothing.
     ///
-    /// Refusals, in this order: 12, 13, 15, 16, 17.
+    /// Refusals, in this order: 12, 13, 15, 16, 17. [`Refusal::place`] of the last is the first place in which the operation
+    /// meets a placed one, or itself.
     Place {
         /// The operation.
         op: usize,
@@ -18,6 +34,7 @@ pub enum Call {
     /// Places an operation, and removes before that all placed ones which conflict with it or break a dependence with it.
     ///
     /// Refusals, in this order: 12, 13, 15, 16 and 17, of which the last two are about the operation itself only.
+    /// [`Refusal::place`] of 17 is the first place in which it meets itself.
     Force {
         /// The operation.
         op: usize,
@@ -71,6 +88,19 @@ impl Call {
     }
 }
 
+impl fmt::Display for Call {
+    fn fmt(&self, f: &mut fmt::Formatter<'_>) -> fmt::Result {
+        match self {
+            Call::Place { op, start } => write!(f, "place operation {op} at {start}"),
+            Call::Force { op, start } => write!(f, "force operation {op} to {start}"),
+            Call::Remove { op } => write!(f, "remove operation {op}"),
+            Call::Checkpoint => write!(f, "open a checkpoint"),
+            Call::Release => write!(f, "release the newest checkpoint"),
+            Call::Rollback { checkpoint } => write!(f, "roll back to checkpoint {checkpoint}"),
+        }
+    }
+}
+
 /// The answer to a [`Call`] that was not refused.
 #[derive(Clone, Copy, Debug, PartialEq, Eq, Hash)]
 pub enum Reply {
@@ -100,7 +130,7 @@ pub struct Replay {
 /// other. The interval may be below the loop's bounds.
 ///
 /// ```
-/// use mwelitunga::{replay, Call, Reply};
+/// use mwelitunga::{replay, Call, Place, Refusal, Reply};
 ///
 /// let file = std::fs::read("../../examples/a.loop")?;
 /// let calls = [
@@ -112,7 +142,8 @@ pub struct Replay {
 /// let replay = replay(&file, 3, 256, &calls)?;
 /// assert_eq!(replay.replies[1], Ok(Reply::Checkpoint(1)));
 /// assert_eq!(replay.replies[2], Ok(Reply::Displaced(0b001)));
-/// assert_eq!(replay.replies[3].unwrap_err().number, 17);
+/// assert_eq!(replay.replies[3], Err(Refusal { number: 17, detail: 1 }));
+/// assert_eq!(replay.replies[3].unwrap_err().place(), Some(Place { cycle: 0, slot: 1 }));
 /// assert_eq!(replay.starts, [None, None, Some(3)]);
 /// assert_eq!(replay.checkpoints, 1);
 /// assert_eq!(replay.rows, [1, 0, 0]);

@@ -41,7 +41,8 @@ extern "C" {
     pub fn mw_bounds(file: *const u8, file_length: usize, answer: *mut Answer) -> usize;
 
     /// The verdict on proposed starts. `answer[1]`: 0 where they are legal; 1 where a dependence is broken, whose
-    /// number is `answer[2]`; 2 where two operations conflict, which are `answer[2]` and `answer[3]`.
+    /// number is `answer[2]`; 2 where two operations conflict, which are `answer[2]` and `answer[3]`, and `answer[4]` is
+    /// the number of the first place in which the second meets the first: 32 times a cycle of the second, and the slot.
     ///
     /// Refusals: 1 to 6, 7, 20, 15.
     pub fn mw_verify(
@@ -93,8 +94,8 @@ extern "C" {
     /// 5 release, 6 rollback) and two arguments. `answer[1]`: the number of calls. `answer[2]`: how many checkpoints
     /// are open at the end.
     ///
-    /// Each call has two numbers in `replies`: 0 and the value, or its refusal's number and detail. The first
-    /// `interval` rows become the table of the placed operations. `starts` is written in full.
+    /// Each call has two numbers in `replies`: 0 and the value, or its refusal's number and detail; that of 17 is the
+    /// number of a place. The first `interval` rows become the table of the placed operations. `starts` is written in full.
     ///
     /// Refusals: 255 for a call of another kind, then for a cut-off call; 254 where `replies` is too short; 1 to 6; 7;
     /// 20. A refusal writes nothing but the answer.

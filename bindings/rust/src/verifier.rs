@@ -3,7 +3,7 @@
 use std::fmt;
 
 use crate::sys;
-use crate::Refusal;
+use crate::{Place, Refusal};
 
 /// The verdict on a proposed list of starts.
 #[derive(Clone, Copy, Debug, PartialEq, Eq, Hash)]
@@ -22,6 +22,9 @@ pub enum Verdict {
         first: usize,
         /// The larger one; the same where an operation holds a slot for longer than the interval.
         second: usize,
+        /// Where the second meets the first: the first cycle of the second, and in it the lowest slot, that the first
+        /// one covers too. Where they are the same, one that it covers in an earlier cycle too.
+        place: Place,
     },
 }
 
@@ -30,12 +33,21 @@ impl fmt::Display for Verdict {
         match self {
             Verdict::Legal => write!(f, "legal"),
             Verdict::Broken { dependence } => write!(f, "dependence {dependence} is broken"),
-            Verdict::Conflict { first, second } if first == second => {
-                write!(f, "operation {first} conflicts with itself")
+            Verdict::Conflict {
+                first,
+                second,
+                place,
+            } if first == second => {
+                write!(f, "operation {first} conflicts with itself, in its {place}")
             }
-            Verdict::Conflict { first, second } => {
-                write!(f, "operations {first} and {second} conflict")
-            }
+            Verdict::Conflict {
+                first,
+                second,
+                place: Place { cycle, slot },
+            } => write!(
+                f,
+                "operations {first} and {second} conflict, in cycle {cycle} of operation {second}, slot {slot}"
+            ),
         }
     }
 }
@@ -44,12 +56,16 @@ impl fmt::Display for Verdict {
 /// past the operations is not looked at.
 ///
 /// ```
-/// use mwelitunga::{verify, Verdict};
+/// use mwelitunga::{verify, Place, Verdict};
 ///
 /// let file = std::fs::read("../../examples/a.loop")?;
 /// assert_eq!(verify(&file, 3, &[0, 2, 5])?, Verdict::Legal);
 /// assert_eq!(verify(&file, 3, &[0, 2, 4])?, Verdict::Broken { dependence: 1 });
-/// assert_eq!(verify(&file, 3, &[0, 2, 6])?, Verdict::Conflict { first: 0, second: 2 });
+///
+/// let verdict = verify(&file, 3, &[0, 2, 6])?;
+/// let place = Place { cycle: 0, slot: 1 };
+/// assert_eq!(verdict, Verdict::Conflict { first: 0, second: 2, place });
+/// assert_eq!(verdict.to_string(), "operations 0 and 2 conflict, in cycle 0 of operation 2, slot 1");
 /// # Ok::<(), Box<dyn std::error::Error>>(())
 /// ```
 ///
@@ -78,6 +94,7 @@ pub fn verify(file: &[u8], interval: usize, starts: &[u16]) -> Result<Verdict, R
         2 => Verdict::Conflict {
             first: a,
             second: b,
+            place: Place::of(answer[4]),
         },
         other => unreachable!("mw_verify has no verdict {other}"),
     })

@@ -1,6 +1,6 @@
-//! What a refusal says: one line for each number.
+//! What a refusal says, one line for each number, and what a verdict and a call say.
 
-use mwelitunga::{search, Kind, Refusal, Request};
+use mwelitunga::{search, Call, Kind, Place, Refusal, Request, Verdict};
 
 /// The message of a number and a detail.
 fn message(number: usize, detail: u64) -> String {
@@ -61,10 +61,65 @@ fn some_messages() {
             message(13, 5),
             "operation 5 is placed already (refused 13 at 5)",
         ),
+        (
+            message(17, 35),
+            "the operation conflicts with itself or with a placed one, in its cycle 1, slot 3 (refused 17 at 35)",
+        ),
         (message(99, 5), "unknown refusal (refused 99 at 5)"),
     ];
     for (made, expected) in lines {
         assert_eq!(made, expected);
+    }
+}
+
+#[test]
+fn only_a_conflict_has_a_place() {
+    for number in (0..=20).chain([254, 255, 256]) {
+        let refusal = Refusal { number, detail: 97 };
+        let place = Place { cycle: 3, slot: 1 };
+        assert_eq!(refusal.place(), (number == 17).then_some(place), "{number}");
+    }
+}
+
+#[test]
+fn every_verdict() {
+    let conflict = |first, second| Verdict::Conflict {
+        first,
+        second,
+        place: Place::of(97),
+    };
+    let lines = [
+        (Verdict::Legal, "legal"),
+        (Verdict::Broken { dependence: 4 }, "dependence 4 is broken"),
+        (
+            conflict(0, 2),
+            "operations 0 and 2 conflict, in cycle 3 of operation 2, slot 1",
+        ),
+        (
+            conflict(2, 2),
+            "operation 2 conflicts with itself, in its cycle 3, slot 1",
+        ),
+    ];
+    for (verdict, expected) in lines {
+        assert_eq!(verdict.to_string(), expected);
+    }
+}
+
+#[test]
+fn every_call() {
+    let lines = [
+        (Call::Place { op: 1, start: 2 }, "place operation 1 at 2"),
+        (Call::Force { op: 1, start: 2 }, "force operation 1 to 2"),
+        (Call::Remove { op: 63 }, "remove operation 63"),
+        (Call::Checkpoint, "open a checkpoint"),
+        (Call::Release, "release the newest checkpoint"),
+        (
+            Call::Rollback { checkpoint: 3 },
+            "roll back to checkpoint 3",
+        ),
+    ];
+    for (call, expected) in lines {
+        assert_eq!(call.to_string(), expected);
     }
 }
 

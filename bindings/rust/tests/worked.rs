@@ -1,8 +1,8 @@
 //! The worked examples of the rules, by number, and the listings of the example files, through the safe functions.
 
 use mwelitunga::{
-    bounds, plan, read, replay, search, verify, Bounds, Call, Counts, Refusal, Reply, Request,
-    Verdict,
+    bounds, plan, read, replay, search, verify, Bounds, Call, Counts, Place, Refusal, Reply,
+    Request, Verdict,
 };
 use plain::file::{Dependence, Loop, Operation, Use};
 use plain::writer::write;
@@ -85,6 +85,18 @@ fn refused(file: &[u8], request: Request) -> (usize, u64, Option<usize>) {
     (error.refusal.number, error.refusal.detail, error.probes)
 }
 
+/// The two operations of a conflict, and the number of its place.
+fn conflict(file: &[u8], interval: usize, starts: &[u16]) -> (usize, usize, u64) {
+    match verify(file, interval, starts).unwrap() {
+        Verdict::Conflict {
+            first,
+            second,
+            place,
+        } => (first, second, place.number()),
+        verdict => panic!("{verdict}"),
+    }
+}
+
 fn recurrence(file: &[u8]) -> usize {
     bounds(file).unwrap().recurrence
 }
@@ -128,6 +140,7 @@ fn case_3_a_longer_interval_may_not_do() {
     let conflict = Verdict::Conflict {
         first: 0,
         second: 1,
+        place: Place { cycle: 0, slot: 1 },
     };
     assert_eq!(verify(&file, 3, &[0, 3]), Ok(conflict));
     assert_eq!(verify(&file, 4, &[0, 3]), Ok(Verdict::Legal));
@@ -200,6 +213,7 @@ fn case_10_an_operation_longer_than_the_interval() {
     let conflict = Verdict::Conflict {
         first: 0,
         second: 0,
+        place: Place { cycle: 3, slot: 1 },
     };
     assert_eq!(verify(&file, 3, &[0]), Ok(conflict));
     assert_eq!(verify(&file, 4, &[0]), Ok(Verdict::Legal));
@@ -252,6 +266,96 @@ fn case_13_the_largest_recurrence_bound() {
         .map(|op| (op, (op + 1) % 64, 64, i32::from(op == 63)))
         .collect();
     assert_eq!(recurrence(&only_dependences(64, &ring)), 4096);
+}
+
+#[test]
+fn a_place_has_a_number() {
+    for (number, cycle, slot) in [
+        (1, 0, 1),
+        (24, 0, 24),
+        (35, 1, 3),
+        (97, 3, 1),
+        (504, 15, 24),
+    ] {
+        let place = Place { cycle, slot };
+        assert_eq!(Place::of(number), place);
+        assert_eq!(place.number(), number);
+    }
+}
+
+/// The cycle is that of the second operation, wherever it starts, and of two slots the lower one is told.
+#[test]
+fn a_verdict_says_where() {
+    assert_eq!(conflict(&loop_b(), 3, &[0, 3]), (0, 1, 1));
+    let two = file(
+        &[(1, &[(2, 2), (3, 1)]), (1, &[(1, 4), (2, 3), (3, 3)])],
+        &[],
+    );
+    // Operation 0 is in row 2 with slots 2 and 3, which is cycle 2 of operation 1.
+    assert_eq!(conflict(&two, 8, &[2, 0]), (0, 1, 2 * 32 + 2));
+    // In row 7, and operation 1 from row 5 on.
+    assert_eq!(conflict(&two, 8, &[7, 5]), (0, 1, 2 * 32 + 2));
+    // Operation 1 begins in row 3: there operation 0 has its second cycle in slot 2, and slot 3 no longer.
+    assert_eq!(conflict(&two, 8, &[2, 3]), (0, 1, 2));
+    // At an interval of 2 operation 1 conflicts with itself too. With operation 0 it does before.
+    assert_eq!(conflict(&two, 2, &[1, 0]), (0, 1, 2));
+    let four = file(&[(1, &[(1, 4)])], &[]);
+    assert_eq!(conflict(&four, 3, &[0]), (0, 0, 97));
+    assert_eq!(conflict(&four, 3, &[2]), (0, 0, 97));
+    assert_eq!(conflict(&four, 1, &[2]), (0, 0, 33));
+    // The last place that there is: slot 24 in cycle 15.
+    let last = file(&[(1, &[(24, 1)]), (1, &[(24, 16)])], &[]);
+    assert_eq!(conflict(&last, 16, &[15, 0]), (0, 1, 504));
+    assert_eq!(conflict(&last, 16, &[15, 15]), (0, 1, 24));
+}
+
+/// What place and force are refused for, at an interval of 3.
+#[test]
+fn a_refused_call_says_where() {
+    let file = file(
+        &[
+            (1, &[(1, 1)]),
+            (1, &[(1, 3)]),
+            (1, &[(1, 1), (2, 4)]),
+            (1, &[(2, 1)]),
+        ],
+        &[],
+    );
+    let refused = |op: usize, start: usize, place: bool| {
+        let mut calls = vec![
+            Call::Place { op: 0, start: 0 }, // slot 1, row 0
+            Call::Place { op: 3, start: 5 }, // slot 2, row 2
+        ];
+        calls.push(match place {
+            true => Call::Place { op, start },
+            false => Call::Force { op, start },
+        });
+        let refusal = replay(&file, 3, 256, &calls).unwrap().replies[2].unwrap_err();
+        assert_eq!(refusal.number, 17);
+        assert_eq!(refusal.place(), Some(Place::of(refusal.detail)));
+        refusal.detail
+    };
+    // Operation 1 comes to row 0 in cycle 2, where it starts in row 1; in cycle 0, where it starts there.
+    assert_eq!(refused(1, 1, true), 2 * 32 + 1);
+    assert_eq!(refused(1, 4, true), 2 * 32 + 1);
+    assert_eq!(refused(1, 3, true), 1);
+    // Operation 2 meets operation 0 in slot 1 at once, operation 3 in slot 2 in row 2.
+    assert_eq!(refused(2, 0, true), 1);
+    assert_eq!(refused(2, 1, true), 32 + 2);
+    assert_eq!(refused(2, 2, true), 2);
+    // Forced, it meets only itself, wherever it starts.
+    for start in 0..6 {
+        assert_eq!(refused(2, start, false), 3 * 32 + 2);
+    }
+    // In an empty table it meets only itself, too.
+    let alone = [Call::Place { op: 2, start: 0 }];
+    let reply = replay(&file, 3, 256, &alone).unwrap().replies[0];
+    let refusal = Refusal {
+        number: 17,
+        detail: 98,
+    };
+    assert_eq!(reply, Err(refusal));
+    assert_eq!(refusal.place(), Some(Place { cycle: 3, slot: 2 }));
 }
 
 /// Interval and starts of a plan, whose starts are legal, and whether it is said to be smallest.

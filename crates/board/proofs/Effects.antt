@@ -97,7 +97,7 @@ module _ {f : List ℕ} {ii h : ℕ} {xs rows : List ℕ} (b : Board f ii h xs r
 
     -- it fits
     pub place-fits : fitsAt (loopOf f) ii (seats xs) o t ≡ true
-    place-fits = subst (λ (g : Placing). fitsAt (loopOf f) ii g o t ≡ true) (same-seats f xs (b .accepted) (b .sane .whole) (b .sane .blank)) (good.place-fits (setupAs f ii h) (bare f xs) o t fine)
+    place-fits = subst (λ (g : Placing). fitsAt (loopOf f) ii g o t ≡ true) (same-seats f xs (b .accepted) (b .sane .whole) (b .sane .blank)) (good.place-fits (setupAs f ii h) (accepted-ok f (b .accepted)) (b .numbers .some) (bare f xs) o t fine)
 
     -- placed
     pub did-place : {xs′ rows′ : List ℕ} → IsPut f ii o t xs rows xs′ rows′ → Did (place o t) f ii h xs rows xs′ rows′ reply.Done

@@ -255,7 +255,7 @@ module _ {f : List ℕ} {ii h : ℕ} {xs rows : List ℕ} (b : Board f ii h xs r
     pub force-fits : fitsAt (loopOf f) ii (seats xs′) o t ≡ true
     force-fits =
         subst (λ (g : Placing). fitsAt (loopOf f) ii g o t ≡ true) (ap placedIn (sym (left-starts b c)) ∙ same-seats f xs′ (b .accepted) (c .board .sane .whole) (c .board .sane .blank))
-        (good.force-fits (setupAs f ii h) (bare f xs) o t fine)
+        (good.force-fits (setupAs f ii h) (accepted-ok f (b .accepted)) (b .numbers .some) (bare f xs) o t fine)
 
     -- forced
     pub did-force : {xs″ rows″ : List ℕ} → IsPut f ii o t xs′ rows′ xs″ rows″ → Did (force o t) f ii h xs rows xs″ rows″ (reply.Displaced mask)

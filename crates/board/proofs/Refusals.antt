@@ -1,26 +1,34 @@
 -- What each call is refused for, check by check, off the array of a session. Assumes nothing.
 use mathlib.Core.Path.{_≡_, refl, sym, ap, _∙_, fun-ext}
-use mathlib.Core.Bool.{Bool, true, false}
+use mathlib.Core.Bool.{true}
 use mathlib.Core.List.{List, [], _∷_}
-use mathlib.Core.Option.{none, some}
-use Prim.Native.Nat.{ℕ, _≤_, _<_}
+use mathlib.Core.Option.{Option, none, some}
+use Prim.Native.Nat.{ℕ, _+_, _*_, _≤_, _<_}
+use native.Mathlib.Omega.{arith}
 use borrow.Author.Tests.{le-leb, lt-leb}
 use lib.ListN.{getD, replicate}
-use Rattle.model.specs.Refusals.{Refusal, Check, check, firstRefusal}
-use Rattle.model.specs.Loop.{size, opAt, LoopOk}
+use Rattle.model.specs.Refusals.{Refusal, Check, firstRefusal}
+use Rattle.model.specs.Loop.{Use, size, opAt, OpOk}
 use Rattle.model.specs.File.{loopOf}
-use Rattle.model.specs.Legality.{Placing, selfConflict, firstBreach, conflicts}
-use Rattle.model.specs.Session.{placedIn, isPlaced, absent, taken, late, unmet, nowhere, checks, place, force, remove}
-use Rattle.model.specs.Table.{rowBase}
+use Rattle.model.specs.Legality.{Placing, firstBreach}
+use Rattle.model.specs.Counts.{single, used, placeClash, ownClash}
+use Rattle.model.specs.Session.{placedIn, isPlaced, absent, taken, late, unmet, clashed, nowhere, checks, place, force, remove}
+use Rattle.model.specs.Table.{rowBase, cellsOf}
 use Rattle.model.proofs.Lists.{getD-filled}
 use Rattle.model.proofs.File.{accepted-ok}
 use Rattle.model.proofs.Good.{New, new-passed}
 use Rattle.model.proofs.Checks.{refusal-append, refusal-early, found-refused, found-passed}
-use Rattle.reservation.specs.Place.{firstMet}
+use Rattle.refusals.specs.Checked.{refusalOf}
+use Rattle.reservation.specs.declared.Place.{Place}
+use Rattle.reservation.specs.declared.Place.the-variants as place
+use Rattle.reservation.specs.Place.{firstMet, placeOf, placeIs, InRange, OwnPlace}
 use Rattle.reservation.specs.Seats.{seatOf, seats}
 use Rattle.reservation.proofs.Seats.{seat-none, seat-some}
-use Rattle.reservation.proofs.Placings.{legal-digits, free-conflict, conflict-free}
+use Rattle.reservation.proofs.Placings.{legal-digits}
+use Rattle.reservation.proofs.TakenCells.{found-range}
+use Rattle.reservation.proofs.Fits.{taken-same}
 use Rattle.board.specs.Board.{setupAs, bare, Board}
+use Rattle.board.specs.Checks.{asClash}
 use Rattle.board.proofs.Readings.{starts-at}
 use Rattle.board.proofs.Boards.{same-seats}
 
@@ -76,16 +84,17 @@ module _ (f : List ℕ) (h o t : ℕ) (xs : List ℕ) where
   known-open : firstRefusal (common f h o t xs) ≡ none → seats xs o ≡ none
   known-open e = sym (starts-at (size (loopOf f)) xs o (known e .inside)) ∙ known e .free
 
--- ---- dependences, then conflicts
+-- ---- dependences, then the first taken place
 
--- a conflict, and none
-conflict-last : (b : Bool) → b ≡ true → firstRefusal (check b 17 0 ∷ []) ≡ some (record { number = 17; detail = 0 })
+-- what is said of the first taken place is what the check for it says
+clash-says : (r : Place) (q : Option (ℕ × Use)) → placeOf r ≡ placeIs q → refusalOf (asClash r) ≡ firstRefusal (clashed q ∷ [])
 unfolding firstRefusal
-conflict-last b q = rw q
-
-none-last : (b : Bool) → b ≡ false → firstRefusal (check b 17 0 ∷ []) ≡ none
-unfolding firstRefusal
-none-last b q = rw q
+clash-says place.Free none e = refl
+clash-says place.Free (some q) e = let z : _≡_ {A = ℕ} 0 1 = cc in absurd (omega arith)
+clash-says (place.Taken k s) none e = let z : _≡_ {A = ℕ} 0 1 = cc in absurd (omega arith)
+clash-says (place.Taken k s) (some q) e =
+    let same : _≡_ {A = ℕ × ℕ} (k, s) (q .0, q .1 .slot) = cc in
+    ap (λ (x : ℕ × ℕ). some (record { number = 17; detail = 32 * x .0 + x .1 })) same
 
 -- an empty array places nothing
 blank-nowhere : (n : ℕ) → seats (replicate n 65535) ≡ nowhere
@@ -102,7 +111,7 @@ module _ (f : List ℕ) (ii h : ℕ) (xs rows : List ℕ) (b : Board f ii h xs r
   abbrev later : List Check
   later =
       unmet (setupAs f ii h) (placedIn (bare f xs .starts)) o t
-      ∷ check (conflicts (loopOf f) ii (placedIn (bare f xs .starts)) o t) 17 0
+      ∷ clashed (placeClash (loopOf f) ii (placedIn (bare f xs .starts)) o t)
       ∷ []
 
   -- a refusal by the common ones
@@ -116,41 +125,34 @@ module _ (f : List ℕ) (ii h : ℕ) (xs rows : List ℕ) (b : Board f ii h xs r
     place-broken e q = refusal-append (common f h o t xs) later so-far ∙ found-refused 16 _ e _ (ap (λ (g : Placing). firstBreach (loopOf f) ii g o t) same ∙ q)
 
     module _ (held : firstBreach (loopOf f) ii (seats xs) o t ≡ none) where
-      -- the conflicts decide
-      place-held : firstRefusal (checks (setupAs f ii h) (place o t) (bare f xs)) ≡ firstRefusal (check (conflicts (loopOf f) ii (seats xs) o t) 17 0 ∷ [])
+      -- the first taken place decides
+      place-held : firstRefusal (checks (setupAs f ii h) (place o t) (bare f xs)) ≡ firstRefusal (clashed (placeClash (loopOf f) ii (seats xs) o t) ∷ [])
       place-held =
           refusal-append (common f h o t xs) later so-far ∙ found-passed 16 _ _ (ap (λ (g : Placing). firstBreach (loopOf f) ii g o t) same ∙ held)
-          ∙ ap (λ (g : Placing). firstRefusal (check (conflicts (loopOf f) ii g o t) 17 0 ∷ [])) same
+          ∙ ap (λ (g : Placing). firstRefusal (clashed (placeClash (loopOf f) ii g o t) ∷ [])) same
 
-      -- nothing is taken
-      pub place-fine : firstMet rowBase ii rows t (opAt (loopOf f) o .uses) ≡ none → firstRefusal (checks (setupAs f ii h) (place o t) (bare f xs)) ≡ none
-      place-fine e =
-          let ok : LoopOk (loopOf f) = accepted-ok f (b .accepted) in
-          place-held
-          ∙ none-last _
-          (free-conflict (loopOf f) ii (seats xs) o t ok (b .numbers .some) (known f h o t xs so-far .inside) (known-open f h o t xs so-far) rows (b .held)
-          (legal-digits (loopOf f) ii (seats xs) ok (b .sane .fine)) e)
+      module _ (r : Place) (e : placeOf r ≡ placeIs (firstMet rowBase ii rows t (opAt (loopOf f) o .uses))) where
+        op-ok : OpOk (opAt (loopOf f) o)
+        op-ok = accepted-ok f (b .accepted) .op-ok o (known f h o t xs so-far .inside)
 
-      -- something is
-      pub place-clash : (firstMet rowBase ii rows t (opAt (loopOf f) o .uses) ≡ none → ⊥)
-          → firstRefusal (checks (setupAs f ii h) (place o t) (bare f xs)) ≡ some (record { number = 17; detail = 0 })
-      place-clash n = place-held ∙ conflict-last _ (pick (conflicts (loopOf f) ii (seats xs) o t) refl)
-        where
-          ok : LoopOk (loopOf f)
-          ok = accepted-ok f (b .accepted)
+        -- the rows' first taken place is the model's
+        place-met : placeOf r ≡ placeIs (placeClash (loopOf f) ii (seats xs) o t)
+        place-met =
+            e
+            ∙ ap placeIs (sym (taken-same (omega arith) ii (cellsOf (loopOf f) ii (seats xs)) rows (b .held) (legal-digits (loopOf f) ii (seats xs) (accepted-ok f (b .accepted)) (b .sane .fine))
+            (opAt (loopOf f) o) op-ok (b .numbers .some) t))
 
-          pick : (c : Bool) → conflicts (loopOf f) ii (seats xs) o t ≡ c → c ≡ true
-          pick true q = refl
-          pick false q =
-              absurd
-              (n (conflict-free (loopOf f) ii (seats xs) o t ok (b .numbers .some) (known f h o t xs so-far .inside) (known-open f h o t xs so-far) rows (b .held)
-              (legal-digits (loopOf f) ii (seats xs) ok (b .sane .fine)) q))
+        pub place-range : InRange r
+        place-range = found-range single (used (loopOf f) ii (seats xs)) true ii (opAt (loopOf f) o) t op-ok r place-met
+
+        pub place-last : refusalOf (asClash r) ≡ firstRefusal (checks (setupAs f ii h) (place o t) (bare f xs))
+        place-last = clash-says r (placeClash (loopOf f) ii (seats xs) o t) place-met ∙ sym place-held
 
 -- ---- forcing
 
 module _ (f : List ℕ) (ii h : ℕ) (xs : List ℕ) (o t : ℕ) where
   abbrev own : List Check
-  own = unmet (setupAs f ii h) nowhere o t ∷ check (selfConflict ii (opAt (loopOf f) o)) 17 0 ∷ []
+  own = unmet (setupAs f ii h) nowhere o t ∷ clashed (ownClash ii (opAt (loopOf f) o) t) ∷ []
 
   -- a refusal by the common checks
   pub force-early : (r : Refusal) → firstRefusal (common f h o t xs) ≡ some r → firstRefusal (checks (setupAs f ii h) (force o t) (bare f xs)) ≡ some r
@@ -163,13 +165,9 @@ module _ (f : List ℕ) (ii h : ℕ) (xs : List ℕ) (o t : ℕ) where
     force-broken e q = refusal-append (common f h o t xs) own so-far ∙ found-refused 16 _ e _ (ap (λ (g : Placing). firstBreach (loopOf f) ii g o t) (sym (blank-nowhere n)) ∙ q)
 
     module _ (held : firstBreach (loopOf f) ii (seats (replicate n 65535)) o t ≡ none) where
-      force-held : firstRefusal (checks (setupAs f ii h) (force o t) (bare f xs)) ≡ firstRefusal (check (selfConflict ii (opAt (loopOf f) o)) 17 0 ∷ [])
+      -- where the operation meets itself decides
+      force-held : firstRefusal (checks (setupAs f ii h) (force o t) (bare f xs)) ≡ firstRefusal (clashed (ownClash ii (opAt (loopOf f) o) t) ∷ [])
       force-held = refusal-append (common f h o t xs) own so-far ∙ found-passed 16 _ _ (ap (λ (g : Placing). firstBreach (loopOf f) ii g o t) (sym (blank-nowhere n)) ∙ held)
 
-      -- by a use that is longer than the interval
-      pub force-clash : selfConflict ii (opAt (loopOf f) o) ≡ true → firstRefusal (checks (setupAs f ii h) (force o t) (bare f xs)) ≡ some (record { number = 17; detail = 0 })
-      force-clash e = force-held ∙ conflict-last _ e
-
-      -- nothing is against it
-      pub force-fine : selfConflict ii (opAt (loopOf f) o) ≡ false → firstRefusal (checks (setupAs f ii h) (force o t) (bare f xs)) ≡ none
-      force-fine e = force-held ∙ none-last _ e
+      pub force-last : (r : Place) → OwnPlace ii (opAt (loopOf f) o) r → refusalOf (asClash r) ≡ firstRefusal (checks (setupAs f ii h) (force o t) (bare f xs))
+      force-last r e = clash-says r (ownClash ii (opAt (loopOf f) o) t) (e t) ∙ sym force-held

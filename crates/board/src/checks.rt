@@ -5,8 +5,8 @@ use refusals::Checked;
 use reservation::Broken;
 use reservation::Place;
 use reservation::deps::first_broken;
-use reservation::pairs::too_long;
 use reservation::test::conflict;
+use reservation::test::own_place;
 ghost use mathlib.Core.Path.{_≡_};
 ghost use mathlib.Core.List.{[], _∷_};
 ghost use Rattle.model.specs.Refusals.{firstRefusal};
@@ -15,7 +15,8 @@ ghost use Rattle.model.specs.Session.{checks, absent, taken, late};
 ghost use Rattle.model.specs.Session as model;
 ghost use Rattle.board.specs.Board.{Board, Named, Numbers, setupAs, bare};
 ghost use Rattle.refusals.specs.Checked.{refusalOf};
-ghost use Rattle.board.specs.Checks.{asUnmet};
+ghost use Rattle.reservation.specs.Place.{InRange};
+ghost use Rattle.board.specs.Checks.{asUnmet, asClash};
 
 // An operation that is there and not placed, and a start below the horizon: what placing and forcing have in common.
 fn known(file: &[u8], horizon: usize, op: usize, start: usize, starts: &[u16; 64]) -> Checked
@@ -44,6 +45,17 @@ fn unmet(b: Broken) -> Checked
     }
 }
 
+// The first taken place as a refusal, whose detail is 32 times the cycle and the slot.
+fn clash(p: Place) -> Checked
+    requires { ⌜ InRange p ⌝ }
+    ensures { λ c. ⌜ c ≡ asClash p ⌝ }
+{
+    match p {
+        Place::Free => Checked::Fine,
+        Place::Taken(k, slot) => Checked::Refused(17, 32 * k + slot),
+    }
+}
+
 // Placing an operation at a start.
 pub fn placeable(
     file: &[u8],
@@ -66,10 +78,7 @@ pub fn placeable(
         return unmet(broken);
     };
     let place = conflict(file, op, first_use(file, op), start, interval, rows);
-    let Place::Free = place else {
-        return Checked::Refused(17, 0);
-    };
-    Checked::Fine
+    clash(place)
 }
 
 // Forcing an operation to a start: only what concerns the operation itself counts.
@@ -93,10 +102,8 @@ pub fn forceable(
     let Broken::Nothing = broken else {
         return unmet(broken);
     };
-    if too_long(file, op, interval) {
-        return Checked::Refused(17, 0);
-    }
-    Checked::Fine
+    let place = own_place(file, op, first_use(file, op), interval);
+    clash(place)
 }
 
 // Removing an operation.

@@ -14,7 +14,8 @@ use Rattle.model.specs.Table.{number, rowNumber, tableOf, cellsOf}
 use Rattle.model.specs.Bounds.{totalOn, resourceBound, Feasible, Closed, delayOf, distanceOf, Heavy, LowerIs, cyclic, within, BoundsIs, by-loop}
 use Rattle.model.specs.Search.{words, answer, probes, stageCount, lastEnd, orderOf, listing, sweep, requestChecks, roomChecks, searchChecks, intervals, Request, Outcome, SearchIs, by-sweep}
 use Rattle.model.specs.Session.{Setup, Starts, Call, Reply, start, stateTable, openChecks, openFile, inTheWay, without, maskOf, step, after, replies}
-use Rattle.model.specs.Verifier.{proposalChecks, proposedChecks, firstBroken, firstPair, verdict, verifyFile}
+use Rattle.model.specs.Counts.{firstTaken}
+use Rattle.model.specs.Verifier.{proposalChecks, proposedChecks, firstBroken, firstPair, pairPlace, verdict, verifyFile}
 use Rattle.model.specs.Cases.{searched, CaseHolds, AllHold, no-more, _also_, Called, foundAt, fileA, loopA, fileB2, fileC, ring, idle, starred}
 use Rattle.model.proofs.Signed.{is-pos, of-lt}
 use Rattle.model.proofs.File.{accepted-ok}
@@ -22,7 +23,7 @@ use Rattle.model.proofs.Bounds.{refutes}
 
 -- to unfold this is to unfold every definition that the cases compute with
 computing : Unit {0}
-unfolding readFile fileChecks firstRefusal lengthChecks headChecks standsAt entryChecks contentsChecks opChecks useChecks opUseChecks usesChecks depChecks flatMap upFrom firstUse loopOf signedByte meets anyOf holds totalOn resourceBound sumOf maxOf delayOf distanceOf searchChecks requestChecks roomChecks sweep words answer probes first countIf pairs cellsIn footprint share conflict selfConflict apart legalAt stageCount lastEnd verifyFile proposalChecks proposedChecks firstBroken firstPair verdict openFile openChecks firstBreach inTheWay without maskOf step after replies orderOf listing number rowNumber tableOf cellsOf
+unfolding readFile fileChecks firstRefusal lengthChecks headChecks standsAt entryChecks contentsChecks opChecks useChecks opUseChecks usesChecks depChecks flatMap upFrom firstUse loopOf signedByte meets anyOf holds totalOn resourceBound sumOf maxOf delayOf distanceOf searchChecks requestChecks roomChecks sweep words answer probes first countIf pairs cellsIn footprint firstTaken share conflict selfConflict apart legalAt stageCount lastEnd verifyFile proposalChecks proposedChecks firstBroken firstPair pairPlace verdict openFile openChecks firstBreach inTheWay without maskOf step after replies orderOf listing number rowNumber tableOf cellsOf
 computing = tt
 
 -- ---- bounds

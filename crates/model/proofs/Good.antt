@@ -21,6 +21,7 @@ use Rattle.model.proofs.Checks.{passes-right, passes-head, passes-tail,
 use Rattle.model.proofs.StartLists.{set-places}
 use Rattle.model.proofs.Legality.{fits-tests, SubPlacing, breaks-same}
 use Rattle.model.proofs.Counts.{legal-part, legal-place, legal-nothing}
+use Rattle.model.proofs.Clashes.{place-clashed, force-clashed}
 
 -- starts that a session can come to
 pub record Good (u : Setup) (xs : Starts) : Type 0 where
@@ -148,19 +149,23 @@ module _ (u : Setup) (st : State) (o t : ℕ) where
       not-placed none e = refl
       not-placed (some t) e = let z : _≡_ {A = ℕ} 0 1 = cc in absurd (omega arith)
 
+module _ (u : Setup) (ok : LoopOk (u .loop)) (pos : 1 ≤ u .ii) (st : State) (o t : ℕ) where
   -- it fits, beside all or beside those that are not in the way
   pub place-fits : firstRefusal (checks u (place o t) st) ≡ none → fitsAt (u .loop) (u .ii) (placedIn (st .starts)) o t ≡ true
   unfolding firstBreach
   place-fits e =
       let later = passes-right (absent u o ∷ taken st o ∷ late u o t ∷ []) _ e in
+      let n = new-passed u st o t _ e in
       fits-tests (u .loop) (u .ii) (placedIn (st .starts)) o t
-      ∙ and-both _ _ (false-not _ (none-first _ _ (not-found 16 _ (passes-head _ _ later)))) (false-not _ (passes-head _ _ (passes-tail _ _ later)))
+      ∙ and-both _ _ (false-not _ (none-first _ _ (not-found 16 _ (passes-head _ _ later))))
+      (false-not _ (sym (place-clashed (u .loop) (u .ii) ok pos (placedIn (st .starts)) o t (n .inside) (n .free)) ∙ passes-head _ _ (passes-tail _ _ later)))
 
   pub force-fits : firstRefusal (checks u (force o t) st) ≡ none → fitsAt (u .loop) (u .ii) (placedIn (without u (st .starts) o t)) o t ≡ true
   unfolding firstBreach
   force-fits e =
       let later = passes-right (absent u o ∷ taken st o ∷ late u o t ∷ []) _ e in
-      without-fits u (st .starts) o t (none-first _ _ (not-found 16 _ (passes-head _ _ later))) (passes-head _ _ (passes-tail _ _ later))
+      without-fits u (st .starts) o t (none-first _ _ (not-found 16 _ (passes-head _ _ later)))
+      (sym (force-clashed (u .ii) (opAt (u .loop) o) t (ok .op-ok o (new-passed u st o t _ e .inside)) pos) ∙ passes-head _ _ (passes-tail _ _ later))
 
 -- ---- good starts
 
@@ -203,13 +208,13 @@ module _ (u : Setup) (ok : LoopOk (u .loop)) (pos : 1 ≤ u .ii) where
   unfolding inTheWay
   good-effect (place o t) st e h =
       let n = new-passed u st o t _ e in
-      record { now = good-place (st .starts) o t (n .inside) (n .free) (n .soon) (place-fits u st o t e) (h .now); saved = h .saved }
+      record { now = good-place (st .starts) o t (n .inside) (n .free) (n .soon) (place-fits u ok pos st o t e) (h .now); saved = h .saved }
   good-effect (force o t) st e h =
       let n = new-passed u st o t _ e in
       let xs = st .starts in
       record {
         now =
-            good-place (without u xs o t) o t (n .inside) (without-at u xs o t o ∙ rw (n .free)) (n .soon) (force-fits u st o t e)
+            good-place (without u xs o t) o t (n .inside) (without-at u xs o t o ∙ rw (n .free)) (n .soon) (force-fits u ok pos st o t e)
             (good-part xs (without u xs o t) (inTheWay u xs o t) (without-length u xs o t) (without-at u xs o t) (h .now));
         saved = h .saved;
       }

@@ -16,6 +16,7 @@ pub mod Cells
 pub mod Conflicts
 pub mod Counts
 pub mod Room
+pub mod Clashes
 pub mod Bounds
 pub mod Answers
 pub mod Verifier

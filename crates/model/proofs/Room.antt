@@ -1,6 +1,6 @@
 -- There is a first place without room exactly where there is no room, over any capacities. So at capacity 1 there is one exactly where there is a conflict: with placed operations and itself, with itself alone, or with some
 -- cells alone. And what such a place is. Assumes nothing.
-use mathlib.Core.Path.{_≡_, refl, sym, _∙_}
+use mathlib.Core.Path.{_≡_, refl, sym, ap, _∙_}
 use mathlib.Core.Bool.{Bool, true, false, cond}
 use mathlib.Core.List.{List}
 use mathlib.Core.Option.{none, some}
@@ -14,9 +14,9 @@ use Rattle.model.specs.Loop.{Use, Op, Loop, noUse, size, opAt, useAt, Op
 use Rattle.model.specs.Legality.{Placing, Cell, footprint, share, selfConflict, conflicts}
 use Rattle.model.specs.Table.{countOf}
 use Rattle.model.specs.Counts.{Capacity, single, Usage, unused, used, room, roomFor, cyclesIn, takenAt, firstTaken, placeNumber}
-use Rattle.model.proofs.Lists.{false-not, count-before, count-last}
+use Rattle.model.proofs.Lists.{true-false, false-not, count-before, count-last}
 use Rattle.model.proofs.Firsts.{first-not, grid-not, none-grid, grid-is}
-use Rattle.model.proofs.Conflicts.{Hit, apart-cells, cells-apart, share-sym, own-count, cell-hit, hit-cell, self-once, once-self}
+use Rattle.model.proofs.Conflicts.{Hit, apart-cells, cells-apart, share-sym, slots-rise, own-count, cell-hit, hit-cell, self-once, once-self}
 use Rattle.model.proofs.Counts.{room-each, each-room, room-conflicts}
 
 module _ (cap : Capacity) (u : Usage) (own : Bool) (ii : ℕ) (p : Op) (t : ℕ) (ok : OpOk p) where
@@ -138,3 +138,32 @@ place-cycle k v l = omega arith
 
 pub place-slot : (k : ℕ) (v : Use) → v .slot < 32 → placeNumber (k, v) % 32 ≡ v .slot
 place-slot k v l = omega arith
+
+module _ (cap : Capacity) (u : Usage) (own : Bool) (ii : ℕ) (p : Op) (t k : ℕ) (v : Use) (ok : OpOk p) (e : firstTaken cap u own ii p t ≡ some (k, v)) where
+  found : TakenPlace cap u own ii p t k v
+  found = taken-found cap u own ii p t k v e
+
+  -- of an operation in range they are small
+  pub place-small : (k < 16) × (v .slot ≤ 24)
+  place-small = (found .cycle-below, rw (← found .use-is) (ok .each (found .use-number) (found .use-inside) .slot-high))
+
+  -- and every taken place has this number or a larger one
+  pub place-least : (c j : ℕ) → j < length (p .uses) → takenAt cap u own ii t c (useAt p j) ≡ true → placeNumber (k, v) ≤ placeNumber (c, useAt p j)
+  place-least c j l h =
+      let not-before : c < k → ⊥ = λ m. true-false (sym h ∙ found .earliest c j m l) in
+      let not-below : c ≡ k → j < found .use-number → ⊥ = λ m n. true-false (sym h ∙ rw m (found .lowest j n)) in
+      pick (decLt k c) not-before not-below
+    where
+      here : useAt p (found .use-number) .slot ≡ v .slot
+      here = ap (λ (w : Use). w .slot) (found .use-is)
+
+      rises : Dec (found .use-number ≡ j) → found .use-number ≤ j → v .slot ≤ useAt p j .slot
+      rises (yes q) m = let there : useAt p j .slot ≡ v .slot = rw q at here in omega arith
+      rises (no n) m = omega (arith, here, slots-rise p ok (found .use-number) j (omega arith) l)
+
+      pick : Dec (k < c) → (c < k → ⊥) → (c ≡ k → j < found .use-number → ⊥) → placeNumber (k, v) ≤ placeNumber (c, useAt p j)
+      pick (yes m) f g = omega (arith, place-small)
+      pick (no m) f g =
+          let same : c ≡ k = omega arith in
+          let after : found .use-number ≤ j = omega (arith, g same) in
+          omega (arith, rises (ℕ-discrete (found .use-number) j) after)

@@ -14,12 +14,14 @@ use Rattle.model.specs.Refusals.{Refusal, firstRefusal, Answer, answered
 use Rattle.model.specs.Loop.{size, LoopOk}
 use Rattle.model.specs.Legality.{legalAt, placeAt, firstBreach, conflicts, fitsAt}
 use Rattle.model.specs.Table.{rowBase, tableOf}
+use Rattle.model.specs.Counts.{placeClash}
 use Rattle.model.specs.Session.{Setup, Starts, State, start, placedIn, stateTable, Call, place, force, remove, checkpoint, release, rollback, Reply, done, numbered, isPlaced, checks, effect, stepAs, step, after, replies}
 use Rattle.model.specs.Undo.{gives, NoneGives, markedBy, startOr, placings, times, OrderOf, AllDone}
 use Rattle.model.proofs.Lists.{getD-filled, and-left, and-right, first-none}
 use Rattle.model.proofs.StartLists.{set-places}
 use Rattle.model.proofs.Legality.{fits-tests, fits-conflict}
 use Rattle.model.proofs.Counts.{legal-part, legal-place}
+use Rattle.model.proofs.Room.{conflicts-taken}
 use Rattle.model.proofs.Table.{table-nil-all, cells-nothing}
 use Rattle.model.proofs.Good.{Good, left-part}
 use Rattle.model.proofs.Session.{step-done, rollback-done, state-same, marked, wentBack, back-newest}
@@ -133,13 +135,16 @@ start-table u = ap (tableOf rowBase (u .ii)) (cells-nothing (u .loop) (u .ii) _ 
 -- ---- an operation that is placed
 
 -- an operation that is not placed and fits below the horizon is placed
-pub place-done : (u : Setup) (st : State) (o t : ℕ) → o < size (u .loop) → getD (st .starts) o none ≡ none → t < u .horizon
+pub place-done : (u : Setup) → LoopOk (u .loop) → 1 ≤ u .ii → (st : State) (o t : ℕ) → o < size (u .loop) → getD (st .starts) o none ≡ none → t < u .horizon
     → fitsAt (u .loop) (u .ii) (placedIn (st .starts)) o t ≡ true
     → step u (place o t) st ≡ (record { starts = set (st .starts) o (some t); checkpoints = st .checkpoints }, answered done)
 unfolding firstRefusal firstBreach
-place-done u st o t inside free near fits =
-    step-done u (place o t) st (rw (lt-leb (size (u .loop)) o inside, free, lt-leb (u .horizon) t near, unbroken, fits-conflict (u .loop) (u .ii) (placedIn (st .starts)) o t fits))
+place-done u ok pos st o t inside free near fits =
+    step-done u (place o t) st (rw (lt-leb (size (u .loop)) o inside, free, lt-leb (u .horizon) t near, unbroken, untaken))
   where
+    untaken : placeClash (u .loop) (u .ii) (placedIn (st .starts)) o t ≡ none
+    untaken = conflicts-taken (u .loop) (u .ii) ok pos (placedIn (st .starts)) o t inside free (fits-conflict (u .loop) (u .ii) (placedIn (st .starts)) o t fits)
+
     unbroken : firstBreach (u .loop) (u .ii) (placedIn (st .starts)) o t ≡ none
     unbroken = first-none _ _ (not-true _ (and-left _ (not (conflicts (u .loop) (u .ii) (placedIn (st .starts)) o t)) (sym (fits-tests (u .loop) (u .ii) (placedIn (st .starts)) o t) ∙ fits)))
 
@@ -215,7 +220,7 @@ module _ (u : Setup) (ok : LoopOk (u .loop)) (pos : 1 ≤ u .ii) (xs : Starts) (
       let legal : legalAt (u .loop) (u .ii) (placeAt (placedIn ys) o t) ≡ true =
       ap (legalAt (u .loop) (u .ii)) (sym (set-places (λ x. x) none ys o (some t) t (head-inside o os ys h) refl))
       ∙ legal-part (u .loop) (u .ii) ok pos _ (placedIn xs) (left-part (set ys o (some t)) xs (λ p. leb 1 (times p os)) (left-next o os ys h .at)) (good .fine) in
-      place-done u st o t inside (head-free o os ys h) (good .near o t (head-is o os ys h .0))
+      place-done u ok pos st o t inside (head-free o os ys h) (good .near o t (head-is o os ys h .0))
       (and-right (legalAt (u .loop) (u .ii) (placedIn ys)) _ (sym (legal-place (u .loop) (u .ii) ok pos (placedIn ys) o t inside (head-free o os ys h)) ∙ legal))
 
   -- and so are all

@@ -150,7 +150,7 @@ starred =
     ∷ judged fileA 3 (0 ∷ 2 ∷ 4 ∷ []) (answered (breach 1))
     -- 3
     ∷ judged fileB 2 (0 ∷ 3 ∷ []) (answered isLegal)
-    ∷ judged fileB 3 (0 ∷ 3 ∷ []) (answered (clash 0 1))
+    ∷ judged fileB 3 (0 ∷ 3 ∷ []) (answered (clash 0 1 1))
     ∷ judged fileB 4 (0 ∷ 3 ∷ []) (answered isLegal)
     -- 4; the stage count is 5 divided by 4, rounded up
     ∷ searched fileB2 (record { cap = 4; horizon = 8; budget = 1000000 }) (foundAt 4 3 1 2 78 (0 ∷ 3 ∷ 0 ∷ []))
@@ -175,7 +175,7 @@ starred =
     ∷ bounded (ring 4 1 4 1) (bothAre 1 4)
     ∷ bounded (ring 4 1 5 1) (bothAre 1 5)
     -- 10
-    ∷ judged four 3 (0 ∷ []) (answered (clash 0 0))
+    ∷ judged four 3 (0 ∷ []) (answered (clash 0 0 97))
     ∷ judged four 4 (0 ∷ []) (answered isLegal)
     -- 11
     ∷ called fileA 3 256 (place 0 0 ∷ place 1 2 ∷ []) (answered done ∷ answered done ∷ []) (some 0 ∷ some 2 ∷ none ∷ []) (3 ∷ 0 ∷ 2 ∷ [])

@@ -1,7 +1,7 @@
 -- How often each slot is used in each row, against a capacity for each slot (document 01: every slot holds one operation per cycle). Assumes nothing.
-use mathlib.Core.Bool.{Bool, not, cond, _&&_}
+use mathlib.Core.Bool.{Bool, true, false, not, cond, _&&_}
 use mathlib.Core.List.{List, map, flatMap}
-use mathlib.Core.Option.{Option}
+use mathlib.Core.Option.{Option, none, some}
 use Prim.Native.Nat.{ℕ, _+_, _-_, _*_, _%_}
 use lib.Dec.{eqb, leb, ltb}
 use Rattle.model.specs.Lists.{upFrom, anyOf, first, countIf}
@@ -79,3 +79,22 @@ firstTaken cap u own ii p t = first (λ q. takenAt cap u own ii t (q .0) (q .1))
 -- the place as one number: 32 times the cycle, and the slot, which is below 32
 abbrev pub placeNumber : ℕ × Use → ℕ
 placeNumber q = 32 * q .0 + q .1 .slot
+
+-- of what is found
+abbrev pub numberOf : Option (ℕ × Use) → Option ℕ
+numberOf none = none
+numberOf (some q) = some (placeNumber q)
+
+-- ---- what is taken for whom, where every slot holds one operation per cycle
+
+-- for operation o, to be placed at t: what the placed operations cover, and what it covers itself in an earlier cycle
+abbrev pub placeClash : Loop → ℕ → Placing → (o t : ℕ) → Option (ℕ × Use)
+placeClash l ii f o t = firstTaken single (used l ii f) true ii (opAt l o) t
+
+-- for an operation by itself, started at t: what it covers in an earlier cycle
+abbrev pub ownClash : ℕ → Op → ℕ → Option (ℕ × Use)
+ownClash ii p t = firstTaken single unused true ii p t
+
+-- for operation q, started at t, against operation p, started at s: what p covers
+abbrev pub pairClash : ℕ → Op → ℕ → Op → ℕ → Option (ℕ × Use)
+pairClash ii p s q t = firstTaken single (usedBy ii p s) false ii q t

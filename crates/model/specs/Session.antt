@@ -7,10 +7,11 @@ use lib.Dec.{eqb, leb, ltb}
 use lib.ListN.{length, getD, set, take, drop, replicate}
 use Rattle.model.specs.Lists.{upFrom, anyOf, sumOf}
 use Rattle.model.specs.Refusals.{Check, check, ifFound, range, lent, Answer, answered, refused, settle}
-use Rattle.model.specs.Loop.{Loop, size, opAt}
+use Rattle.model.specs.Loop.{Use, Loop, size, opAt}
 use Rattle.model.specs.File.{fileChecks, loopOf}
-use Rattle.model.specs.Legality.{Placing, selfConflict, touches, breaks, firstBreach, conflictsWith, conflicts}
+use Rattle.model.specs.Legality.{Placing, touches, breaks, firstBreach, conflictsWith}
 use Rattle.model.specs.Table.{tableAt}
+use Rattle.model.specs.Counts.{numberOf, placeClash, ownClash}
 
 -- ---- opening
 
@@ -98,6 +99,10 @@ late u o t = check (leb (u .horizon) t) 15 o
 abbrev pub unmet : Setup → Placing → ℕ → ℕ → Check
 unmet u f o t = ifFound 16 (firstBreach (u .loop) (u .ii) f o t)
 
+-- a taken cell met: the number of the first place is the detail
+abbrev pub clashed : Option (ℕ × Use) → Check
+clashed q = ifFound 17 (numberOf q)
+
 -- no operation is placed
 abbrev pub nowhere : Placing
 nowhere p = none
@@ -106,11 +111,11 @@ nowhere p = none
 abbrev pub checks : Setup → Call → State → List Check
 checks u (place o t) st =
     absent u o ∷ taken st o ∷ late u o t
-    ∷ unmet u (placedIn (st .starts)) o t ∷ check (conflicts (u .loop) (u .ii) (placedIn (st .starts)) o t) 17 0
+    ∷ unmet u (placedIn (st .starts)) o t ∷ clashed (placeClash (u .loop) (u .ii) (placedIn (st .starts)) o t)
     ∷ []
 checks u (force o t) st =
     absent u o ∷ taken st o ∷ late u o t
-    ∷ unmet u nowhere o t ∷ check (selfConflict (u .ii) (opAt (u .loop) o)) 17 0
+    ∷ unmet u nowhere o t ∷ clashed (ownClash (u .ii) (opAt (u .loop) o) t)
     ∷ []
 checks u (remove o) st = absent u o ∷ check (not (isPlaced (getD (st .starts) o none))) 14 o ∷ []
 checks u checkpoint st = check (leb 16 (length (st .checkpoints))) 18 0 ∷ []

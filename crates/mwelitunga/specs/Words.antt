@@ -37,11 +37,11 @@ countWords c = c .ops ∷ c .uses ∷ c .deps ∷ 0 ∷ 0 ∷ 0 ∷ 0 ∷ []
 abbrev pub lowerWords : Lower → List ℕ
 lowerWords b = b .resource ∷ b .recurrence ∷ 0 ∷ 0 ∷ 0 ∷ 0 ∷ 0 ∷ []
 
--- legal, a broken dependence, a conflict
+-- legal, a broken dependence, a conflict with its place
 abbrev pub verdictWords : Verdict → List ℕ
 verdictWords isLegal = 0 ∷ 0 ∷ 0 ∷ 0 ∷ 0 ∷ 0 ∷ 0 ∷ []
 verdictWords (breach e) = 1 ∷ e ∷ 0 ∷ 0 ∷ 0 ∷ 0 ∷ 0 ∷ []
-verdictWords (clash a b) = 2 ∷ a ∷ b ∷ 0 ∷ 0 ∷ 0 ∷ 0 ∷ []
+verdictWords (clash a b n) = 2 ∷ a ∷ b ∷ n ∷ 0 ∷ 0 ∷ 0 ∷ []
 
 -- the bounds of a file
 pub record BoundsGiven (f : List ℕ) (r : ℕ) (before after : List ℕ) : Type 0 where

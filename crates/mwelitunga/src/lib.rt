@@ -82,7 +82,7 @@ pub extern "C" fn mw_bounds(file: &[u8], answer: &mut [u64; 8]) -> usize
     }
 }
 
-// The verdict on a list of starts: 0 legal, 1 a broken dependence and its number, 2 a conflict and its two operations.
+// The verdict on a list of starts: 0 legal, 1 a broken dependence and its number, 2 a conflict, its two operations and the first place in which the second meets the first.
 #[no_mangle]
 pub extern "C" fn mw_verify(
     file: &[u8],
@@ -102,8 +102,8 @@ pub extern "C" fn mw_verify(
             write_answer(answer, 0, 1, e, 0, 0, 0);
             0
         }
-        Verdict::Conflict(a, b) => {
-            write_answer(answer, 0, 2, a, b, 0, 0);
+        Verdict::Conflict(a, b, place) => {
+            write_answer(answer, 0, 2, a, b, place, 0);
             0
         }
         Verdict::Refused(number, detail) => {

@@ -1,5 +1,5 @@
 -- The two searches for a place: over the uses in one cycle, and over the cycles. Assumes nothing.
-use mathlib.Core.Path.{_≡_, refl, sym, ap, _∙_}
+use mathlib.Core.Path.{_≡_, refl, sym, ap, subst, _∙_}
 use mathlib.Core.Bool.{Bool, true, false, and-false, or-true, or-false}
 use mathlib.Core.List.{List, [], _∷_}
 use mathlib.Core.Option.{Option, none, some}
@@ -11,17 +11,18 @@ use lib.Dec.{eqb, leb}
 use lib.ListN.{length, getD, take}
 use borrow.Author.Tests.{le-leb, lt-leb, lt-ltb, le-ltb, eq-eqb}
 use Rattle.model.specs.Lists.{first, maxOf}
-use Rattle.model.specs.Loop.{Op, Use, noUse}
+use Rattle.model.specs.Loop.{Op, Use, noUse, OpOk}
 use Rattle.model.specs.Legality.{covers}
 use Rattle.model.specs.Table.{digitOf}
 use Rattle.model.specs.Counts.{Capacity, Usage, takenAt, firstTaken}
-use Rattle.reservation.specs.Place.{metBy, metIn, cyclesOf, cycleIs, rowAt, metAt, firstMet, placeOf, placeIs, placeInCycle}
+use Rattle.reservation.specs.Place.{metBy, metIn, cyclesOf, cycleIs, rowAt, metAt, firstMet, placeOf, placeIs, placeInCycle, InRange}
 use Rattle.reservation.specs.declared.Place.{Place}
 use Rattle.reservation.specs.declared.Place.the-variants.{Free, Taken}
 use Rattle.reservation.specs.declared.test.Cycle.{Cycle}
 use Rattle.reservation.specs.declared.test.Cycle.the-variants as cycle
 use Rattle.model.proofs.Lists.{at-any, first-none}
 use Rattle.model.proofs.Firsts.{first-not, grid-not, grid-at, none-grid}
+use Rattle.model.proofs.Room.{place-small}
 
 -- what a use meets in cycle k, which falls into the row given
 module _ (base ii row k : ℕ) (u : Use) where
@@ -147,3 +148,13 @@ module _ (cap : Capacity) (u : Usage) (own : Bool) (ii : ℕ) (p : Op) (t : ℕ)
       pick : (o : Option Use) → takenIn k ≡ o → placeOf r ≡ placeInCycle k o → placeOf r ≡ placeIs (firstTaken cap u own ii p t)
       pick none f g = let z : _≡_ {A = ℕ} 0 1 = cc in absurd (omega arith)
       pick (some v) f g = g ∙ sym (ap placeIs (grid-at (takenAt cap u own ii t) (p .uses) 16 k v l h f))
+
+  -- what is said of a place that is found is in range
+  pub found-range : OpOk p → (r : Place) → placeOf r ≡ placeIs (firstTaken cap u own ii p t) → InRange r
+  found-range ok r e = record { small = λ k s q. go k s (firstTaken cap u own ii p t) refl (sym e ∙ q) }
+    where
+      go : (k s : ℕ) (o : Option (ℕ × Use)) → firstTaken cap u own ii p t ≡ o → placeIs o ≡ some (k, s) → (k < 16) × (s ≤ 24)
+      go k s none f g = let z : _≡_ {A = ℕ} 0 1 = cc in absurd (omega arith)
+      go k s (some (c, v)) f g =
+          let same : _≡_ {A = ℕ × ℕ} (c, v .slot) (k, s) = cc in
+          subst (λ (x : ℕ × ℕ). (x .0 < 16) × (x .1 ≤ 24)) same (place-small cap u own ii p t c v ok f)

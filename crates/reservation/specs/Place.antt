@@ -3,7 +3,7 @@ use mathlib.Core.Path.{_≡_}
 use mathlib.Core.Bool.{Bool, true, false, _&&_, _||_}
 use mathlib.Core.List.{List, map, flatMap}
 use mathlib.Core.Option.{Option, none, some}
-use Prim.Native.Nat.{ℕ, _+_, _%_}
+use Prim.Native.Nat.{ℕ, _+_, _%_, _≤_, _<_}
 use lib.Dec.{eqb, leb}
 use lib.ListN.{getD}
 use Rattle.model.specs.Lists.{upFrom, first, maxOf}
@@ -59,6 +59,10 @@ placeIs (some p) = some (p .0, p .1 .slot)
 abbrev pub placeInCycle : ℕ → Option Use → Option (ℕ × ℕ)
 placeInCycle k none = none
 placeInCycle k (some u) = some (k, u .slot)
+
+-- a place whose number can be made: a cycle below 16, and a slot up to 24
+pub record InRange (r : Place) : Type 0 where
+  pub small : (k s : ℕ) → placeOf r ≡ some (k, s) → (k < 16) × (s ≤ 24)
 
 -- r says the first place in which operation p, wherever it is started, meets a cell that it covers itself in an earlier cycle
 abbrev pub OwnPlace : ℕ → Op → Place → Type 0

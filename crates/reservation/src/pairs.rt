@@ -1,4 +1,4 @@
-// Two operations at given starts: whether they meet in a cell; and one against itself. Internal: each function asks for an accepted file, and for starts and an interval in range.
+// Two operations at given starts: whether they meet in a cell, and where first. Internal: each function asks for an accepted file, and for starts and an interval in range.
 use crate::Place;
 use loop_access::duration;
 use loop_access::first_use;
@@ -150,21 +150,4 @@ pub fn shared_place(
         k = k + 1;
     }
     Place::Free
-}
-
-// Whether an operation conflicts with itself: a use of it is longer than the interval.
-pub fn too_long(file: &[u8], op: usize, interval: usize) -> bool
-    requires { ⌜ Accepted (now file) × (op < size (loopOf (now file))) ⌝ }
-    ensures { λ r. ⌜ r ≡ legality.selfConflict interval (opAt (loopOf (now (file .entry))) op) ⌝ }
-{
-    let first = first_use(file, op);
-    let n = use_count(file, op);
-    let mut j = 0;
-    while j < n {
-        if interval < duration(file, first + j) {
-            return true;
-        }
-        j = j + 1;
-    }
-    false
 }

@@ -141,6 +141,20 @@ fn unknown(d: Drawn, starts: &[u16; 6], op: usize, at: usize) -> usize {
     if d.horizon as usize <= at { 15 } else { 0 }
 }
 
+// Where op conflicts at these starts: the first place in which it meets a cell of another operation, or one of its own.
+fn place_of(d: Drawn, starts: [u16; 6], op: usize) -> usize {
+    let start = start_of(&starts, op);
+    let others = with_start(starts, op, NOWHERE);
+    picture::place(
+        picture::of_starts(d, &others, d.interval),
+        d,
+        op,
+        start,
+        d.interval,
+        true,
+    )
+}
+
 // The refusal of an operation and a start, where the starts to be looked at are given; else done.
 fn tested(d: Drawn, old: &[u16; 6], starts: &[u16; 6], op: usize, at: usize) -> Answer {
     let first = unknown(d, old, op, at);
@@ -152,7 +166,7 @@ fn tested(d: Drawn, old: &[u16; 6], starts: &[u16; 6], op: usize, at: usize) -> 
         return form(3, 16, f);
     }
     if f == 6 {
-        return form(3, 17, 0);
+        return form(3, 17, place_of(d, *starts, op));
     }
     form(0, 0, 0)
 }

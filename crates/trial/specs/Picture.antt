@@ -1,7 +1,7 @@
 -- What a picture of a reservation table shows: 24 cells, that of a slot (from 0) and a row at 8 times the slot plus the row. Assumes nothing.
 use mathlib.Core.Bool.{Bool, false, cond, _||_}
 use mathlib.Core.List.{List}
-use Prim.Native.Nat.{ℕ, zero, suc, _+_, _*_, _%_, _^_}
+use Prim.Native.Nat.{ℕ, zero, suc, _+_, _*_, _/_, _%_, _^_}
 use lib.Dec.{eqb, ltb}
 use lib.ListN.{getD, set, replicate}
 use Rattle.trial.specs.declared.drawn.Drawn.{Drawn}
@@ -60,3 +60,29 @@ rowOf cells r = worthOf cells r 1 + worthOf cells (8 + r) 2 + worthOf cells (16 
 unfoldable pub rowsOf : List ℕ → (interval k : ℕ) → List ℕ
 rowsOf cells interval zero = replicate 8 18446744073709551615
 rowsOf cells interval (suc k) = cond (ltb k interval) (set (rowsOf cells interval k) k (rowOf cells k)) (rowsOf cells interval k)
+
+-- whether the cell of a slot and of the row of a cycle is painted; false where there is no such cell
+unfoldable pub markedIn : List ℕ → (slot cycle interval : ℕ) → Bool
+markedIn cells slot cycle interval =
+    cond
+    (ltb slot 3)
+    (cond (ltb 0 interval) (cond (ltb (cycle % interval) 8) (ltb 0 (getD cells (8 * slot + cycle % interval) 0)) false) false)
+    false
+
+-- whether an operation uses a slot in cycle k from its start, and the cell is painted
+unfoldable pub meetsIn : List ℕ → Drawn → (op slot k start interval : ℕ) → Bool
+meetsIn cells d op slot k start interval = cond (ltb k (durationOf d op slot)) (markedIn cells slot ((start + k) % 2 ^ 64) interval) false
+
+-- that cell painted, where the operation uses the slot in that cycle
+unfoldable pub coveredBy : List ℕ → Drawn → (op slot k start interval : ℕ) → List ℕ
+coveredBy cells d op slot k start interval = cond (ltb k (durationOf d op slot)) (dabbed cells slot ((start + k) % 2 ^ 64) interval) cells
+
+-- of the next n cells of an operation, from number i on, the first that is painted, as 32 times its cycle plus its slot (from 1); 0 where none is. Number i is that of cycle i / 3 and of slot
+-- i % 3 (from 0): cycle by cycle, and slot by slot in a cycle. Where own is true, each cell is painted once it has been looked at
+unfoldable pub placeFrom : List ℕ → Drawn → (op start interval : ℕ) → (own : Bool) → (i n : ℕ) → ℕ
+placeFrom cells d op start interval own i zero = 0
+placeFrom cells d op start interval own i (suc n) =
+    cond
+    (meetsIn cells d op (i % 3) (i / 3) start interval)
+    (32 * (i / 3) + i % 3 + 1)
+    (placeFrom (cond own (coveredBy cells d op (i % 3) (i / 3) start interval) cells) d op start interval own (suc i) n)

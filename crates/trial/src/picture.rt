@@ -6,7 +6,7 @@ use std::num::wrapping_add_u8;
 use std::num::wrapping_add_usize;
 ghost use mathlib.Core.Path.{_≡_};
 ghost use Prim.Native.Nat.{_<_, _≤_};
-ghost use Rattle.trial.specs.Picture.{dabbed, painted, added, pictureOf, twiceIn, worthOf, rowsOf};
+ghost use Rattle.trial.specs.Picture.{dabbed, painted, added, pictureOf, twiceIn, worthOf, rowsOf, markedIn, meetsIn, coveredBy, placeFrom};
 
 // What stands in a row that is not part of the table. No row of a drawn loop is this large.
 pub const UNTOUCHED: u64 = 18446744073709551615;
@@ -99,4 +99,75 @@ pub fn rows(picture: &[u8; 24], interval: u16) -> [u64; 8]
         r += 1;
     }
     out
+}
+
+// Whether the cell of a slot and of the row of a cycle is painted.
+fn marked(picture: &[u8; 24], slot: usize, cycle: usize, interval: usize) -> bool
+    ensures { λ r. ⌜ r ≡ markedIn (now (picture .entry)) slot cycle interval ⌝ }
+{
+    if slot < 3 {
+        if 0 < interval {
+            let row = cycle % interval;
+            if row < 8 {
+                return 0 < picture[8 * slot + row];
+            }
+        }
+    }
+    false
+}
+
+// Whether an operation uses a slot in cycle k from its start, and the cell is painted.
+fn meets(
+    picture: &[u8; 24],
+    d: Drawn,
+    op: usize,
+    slot: usize,
+    k: usize,
+    start: usize,
+    interval: usize,
+) -> bool
+    ensures { λ r. ⌜ r ≡ meetsIn (now (picture .entry)) d op slot k start interval ⌝ }
+{
+    if k < duration(d, op, slot) {
+        return marked(picture, slot, wrapping_add_usize(start, k), interval);
+    }
+    false
+}
+
+// That cell painted, where the operation uses the slot in that cycle.
+fn cover(
+    picture: &mut [u8; 24],
+    d: Drawn,
+    op: usize,
+    slot: usize,
+    k: usize,
+    start: usize,
+    interval: usize,
+)
+    ensures { λ _. ⌜ now (picture .exit) ≡ coveredBy (now (picture .entry)) d op slot k start interval ⌝ }
+{
+    if k < duration(d, op, slot) {
+        dab(picture, slot, wrapping_add_usize(start, k), interval);
+    }
+}
+
+// The first place in which an operation meets a painted cell, as 32 times the cycle from its start plus the slot, counted from 1: the first cycle, and in it the lowest slot; 0 where it
+// meets none. Where its own cells count, each of them is painted once it has been looked at. No operation of a file has a use of more than 16 cycles, and so 48 cells are all.
+pub fn place(picture: [u8; 24], d: Drawn, op: usize, start: u16, interval: u16, own: bool) -> usize
+    ensures { λ r. ⌜ r ≡ placeFrom picture d op start interval own 0 48 ⌝ }
+{
+    let s = start as usize;
+    let n = interval as usize;
+    let mut cells = picture;
+    let mut i = 0;
+    while i < 48 {
+        if meets(&cells, d, op, i % 3, i / 3, s, n) {
+            return 32 * (i / 3) + i % 3 + 1;
+        }
+        if own {
+            cover(&mut cells, d, op, i % 3, i / 3, s, n);
+        }
+        i += 1;
+    }
+    0
 }

@@ -3,7 +3,7 @@ use mathlib.Core.Path.{_≡_, refl, sym, ap, _∙_}
 use mathlib.Core.Bool.{Bool, true, false, cond}
 use mathlib.Core.List.{List}
 use mathlib.Core.Option.{Option, none, some}
-use Prim.Native.Nat.{ℕ, _+_, _%_, _≤_, _<_}
+use Prim.Native.Nat.{ℕ, _+_, _*_, _%_, _≤_, _<_}
 use native.Mathlib.Decide.{ℕ-discrete, decLt}
 use native.Mathlib.Omega.{arith}
 use lib.Dec.{leb, ltb}
@@ -16,7 +16,16 @@ use Rattle.model.proofs.Lists.{same-test, any-at, at-any, any-row, row-any, row
 use Rattle.model.proofs.StartLists.{placed-take}
 use Rattle.reservation.specs.Overlaps.{coversCell, useMeets}
 use Rattle.reservation.proofs.Overlaps.{two-uses}
-use Rattle.model.specs.Verifier.{firstPair}
+use lib.Seq.{getD-take}
+use Rattle.model.specs.Refusals.{answered}
+use Rattle.model.specs.Counts.{single, unused, usedBy, numberOf, ownClash, pairClash}
+use Rattle.model.specs.Verifier.{clashAt, firstPair, pairPlace}
+use Rattle.model.specs.Verifier as model
+use Rattle.reservation.specs.declared.Place.{Place}
+use Rattle.reservation.specs.declared.Place.the-variants as place
+use Rattle.reservation.specs.Place.{placeOf, placeIs, InRange}
+use Rattle.reservation.proofs.TakenCells.{found-range}
+use Rattle.verifier.specs.Answer.{verdictOf, asConflict}
 use Rattle.verifier.specs.Walk.{oneEach, meetsAt, Proposal}
 
 -- ---- a pair
@@ -124,3 +133,34 @@ module _ (l : Loop) (ok : LoopOk l) (ii : ℕ) (xs : List ℕ) (asked : Proposal
   pub walk-none : ((c : ℕ) → c < size l → (d : ℕ) → c ≤ d → d < size l → clash l ii xs (c, d) ≡ false) → firstPair l ii (oneEach l xs) ≡ none
   unfolding firstPair
   walk-none all = first-none (clash l ii xs) (pairs (size l)) (pairs-any (clash l ii xs) (size l) (λ a b x y. all a (omega arith) b x y))
+
+-- ---- the place of a pair
+
+-- of an operation with itself
+pub pair-own : (l : Loop) (ii : ℕ) (xs : List ℕ) (a b : ℕ) → a ≡ b → pairPlace l ii xs (a, b) ≡ ownClash ii (opAt l b) (getD xs b 0)
+unfolding pairPlace
+pair-own l ii xs a b e = rw (eq-eqb a b e)
+
+-- of two
+pub pair-two : (l : Loop) (ii : ℕ) (xs : List ℕ) (a b : ℕ) → (a ≡ b → ⊥) → a < size l → b < size l
+    → pairPlace l ii (oneEach l xs) (a, b) ≡ pairClash ii (opAt l a) (getD xs a 0) (opAt l b) (getD xs b 0)
+unfolding pairPlace
+pair-two l ii xs a b n m h = rw (ne-eqb a b n, getD-take (size l) xs a 0 m, getD-take (size l) xs b 0 h)
+
+-- in range, of either
+pub pair-range : (l : Loop) (ii : ℕ) (xs : List ℕ) (a b : ℕ) → LoopOk l → b < size l → (r : Place) → placeOf r ≡ placeIs (pairPlace l ii xs (a, b)) → InRange r
+unfolding pairPlace
+pair-range l ii xs a b ok h r e = go (ℕ-discrete a b)
+  where
+    go : Dec (a ≡ b) → InRange r
+    go (yes q) = found-range single unused true ii (opAt l b) (getD xs b 0) (ok .op-ok b h) r (rw (eq-eqb a b q) at e)
+    go (no n) = found-range single (usedBy ii (opAt l a) (getD xs a 0)) false ii (opAt l b) (getD xs b 0) (ok .op-ok b h) r (rw (ne-eqb a b n) at e)
+
+-- said as a verdict
+pub conflict-says : (a b : ℕ) (r : Place) (q : Option (ℕ × Use)) → placeOf r ≡ placeIs q → verdictOf (asConflict a b r) ≡ answered (clashAt (a, b) (numberOf q))
+conflict-says a b place.Free none e = refl
+conflict-says a b place.Free (some q) e = let z : _≡_ {A = ℕ} 0 1 = cc in absurd (omega arith)
+conflict-says a b (place.Taken k s) none e = let z : _≡_ {A = ℕ} 0 1 = cc in absurd (omega arith)
+conflict-says a b (place.Taken k s) (some q) e =
+    let same : _≡_ {A = ℕ × ℕ} (k, s) (q .0, q .1 .slot) = cc in
+    ap (λ (x : ℕ × ℕ). answered (model.clash a b (32 * x .0 + x .1))) same

@@ -12,7 +12,8 @@ use Rattle.model.specs.Lists.{upFrom}
 use Rattle.model.specs.Refusals.{Refusal, firstRefusal, answered, refused, settled}
 use Rattle.model.specs.Loop.{Loop, size}
 use Rattle.model.specs.File.{fileChecks, loopOf, Accepted}
-use Rattle.model.specs.Verifier.{proposalChecks, proposedChecks, judge, firstBroken, firstPair, verdict, verifyFile}
+use Rattle.model.specs.Verifier.{proposalChecks, proposedChecks, judge, firstBroken, firstPair, pairPlace, verdict, verifyFile}
+use Rattle.model.specs.Counts.{numberOf}
 use Rattle.model.proofs.Lists.{any-row, row-any, first-none, none-first}
 use Rattle.model.proofs.Checks.{refusal-append, passes-left, passes-right, passes-head, passes-tail, not-found, in-range, at-most, at-least}
 use Rattle.verifier.specs.Walk.{oneEach, Proposal}
@@ -62,6 +63,7 @@ module _ (f : List ℕ) (ii : ℕ) (xs : List ℕ) where
 
   -- and else what the two walks find
   pub by-walks : firstRefusal (proposedChecks f ii xs) ≡ none
-      → verifyFile f ii xs ≡ answered (judge (firstBroken (loopOf f) ii (oneEach (loopOf f) xs)) (firstPair (loopOf f) ii (oneEach (loopOf f) xs)))
+      → verifyFile f ii xs
+      ≡ answered (judge (firstBroken (loopOf f) ii (oneEach (loopOf f) xs)) (firstPair (loopOf f) ii (oneEach (loopOf f) xs)) (λ p. numberOf (pairPlace (loopOf f) ii (oneEach (loopOf f) xs) p)))
   unfolding verifyFile verdict
   by-walks e = ap (λ (o : Option Refusal). settled o (verdict (loopOf f) ii (oneEach (loopOf f) xs))) e

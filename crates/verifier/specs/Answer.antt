@@ -1,6 +1,6 @@
 -- What the verifier's answers say, in document 01's numbers. Assumes nothing.
 use mathlib.Core.Option.{Option, none, some}
-use Prim.Native.Nat.{ℕ}
+use Prim.Native.Nat.{ℕ, _+_, _*_}
 use Rattle.model.specs.Refusals.{Answer, answered, refused}
 use Rattle.model.specs.Verifier as model
 use Rattle.refusals.specs.declared.Checked.{Checked}
@@ -9,6 +9,8 @@ use Rattle.verifier.specs.declared.Verdict.{Verdict}
 use Rattle.verifier.specs.declared.Verdict.the-variants as verdict
 use Rattle.reservation.specs.declared.Broken.{Broken}
 use Rattle.reservation.specs.declared.Broken.the-variants as broken
+use Rattle.reservation.specs.declared.Place.{Place}
+use Rattle.reservation.specs.declared.Place.the-variants as place
 use Rattle.verifier.specs.declared.walk.Pair.{Pair}
 use Rattle.verifier.specs.declared.walk.Pair.the-variants as pair
 
@@ -16,7 +18,7 @@ use Rattle.verifier.specs.declared.walk.Pair.the-variants as pair
 abbrev pub verdictOf : Verdict → Answer model.Verdict
 verdictOf verdict.Legal = answered model.isLegal
 verdictOf (verdict.Broken e) = answered (model.breach e)
-verdictOf (verdict.Conflict a b) = answered (model.clash a b)
+verdictOf (verdict.Conflict a b n) = answered (model.clash a b n)
 verdictOf (verdict.Refused n d) = refused (record { number = n; detail = d })
 
 -- a check's refusal as the verifier's
@@ -24,15 +26,15 @@ abbrev pub asRefused : Checked → Verdict
 asRefused checked.Fine = verdict.Refused 0 0
 asRefused (checked.Refused n d) = verdict.Refused n d
 
--- a broken dependence, and a pair that conflicts, as a verdict; legal where there is none
+-- a broken dependence as a verdict; legal where there is none
 abbrev pub asBroken : Broken → Verdict
 asBroken broken.Nothing = verdict.Legal
 asBroken (broken.At e) = verdict.Broken e
 
--- the pair
-abbrev pub asConflict : Pair → Verdict
-asConflict pair.Nothing = verdict.Legal
-asConflict (pair.At a b) = verdict.Conflict a b
+-- a pair that conflicts, and the first place in which it does. (Such a pair has a place, so 0 is never said.)
+abbrev pub asConflict : ℕ → ℕ → Place → Verdict
+asConflict a b place.Free = verdict.Conflict a b 0
+asConflict a b (place.Taken k s) = verdict.Conflict a b (32 * k + s)
 
 -- what the walk over pairs says
 abbrev pub pairOf : Pair → Option (ℕ × ℕ)

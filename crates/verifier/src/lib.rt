@@ -6,18 +6,21 @@ use refusals::Checked;
 use refusals::lent;
 use refusals::range;
 use reservation::Broken;
+use reservation::Place;
 use walk::Pair;
 ghost use mathlib.Core.Path.{_≡_};
 ghost use Rattle.model.specs.Refusals.{firstRefusal};
 ghost use Rattle.model.specs.Verifier.{proposedChecks, verifyFile};
 ghost use Rattle.refusals.specs.Checked.{refusalOf};
+ghost use Rattle.reservation.specs.Place.{InRange};
 ghost use Rattle.verifier.specs.Answer.{verdictOf, asRefused, asBroken, asConflict};
 
-// Legal; the number of a broken dependence; the two operations of a conflict; or a refusal with its number and detail.
+// Legal; the number of a broken dependence; the two operations of a conflict, with the first place in which the second meets the first, 32 times the cycle of the second and the slot; or a refusal with its number and
+// detail.
 pub enum Verdict {
     Legal,
     Broken(usize),
-    Conflict(usize, usize),
+    Conflict(usize, usize, usize),
     Refused(usize, usize),
 }
 
@@ -34,10 +37,11 @@ pub fn verify(file: &[u8], interval: usize, starts: &[u16]) -> Verdict
         return broken(dependence);
     };
     let pair = walk::first_pair(file, interval, starts);
-    let Pair::Nothing = pair else {
-        return conflict(pair);
+    let Pair::At(a, b) = pair else {
+        return Verdict::Legal;
     };
-    Verdict::Legal
+    let place = walk::place_of(file, interval, starts, a, b);
+    conflict(a, b, place)
 }
 
 // What any file, interval and list are refused for.
@@ -79,12 +83,13 @@ fn broken(b: Broken) -> Verdict
     }
 }
 
-// The verdict for a pair that conflicts.
-fn conflict(p: Pair) -> Verdict
-    ensures { λ v. ⌜ v ≡ asConflict p ⌝ }
+// The verdict for a pair that conflicts, and the first place in which it does.
+fn conflict(a: usize, b: usize, place: Place) -> Verdict
+    requires { ⌜ InRange place ⌝ }
+    ensures { λ v. ⌜ v ≡ asConflict a b place ⌝ }
 {
-    match p {
-        Pair::Nothing => Verdict::Legal,
-        Pair::At(a, b) => Verdict::Conflict(a, b),
+    match place {
+        Place::Free => Verdict::Conflict(a, b, 0),
+        Place::Taken(k, slot) => Verdict::Conflict(a, b, 32 * k + slot),
     }
 }

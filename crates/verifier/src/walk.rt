@@ -10,8 +10,11 @@ use loop_access::target;
 use loop_access::use_count;
 use refusals::Checked;
 use reservation::Broken;
+use reservation::Place;
 use reservation::deps::dep_holds;
 use reservation::pairs::covers;
+use reservation::pairs::shared_place;
+use reservation::test::own_place;
 ghost use mathlib.Core.Path.{_≡_};
 ghost use mathlib.Core.List.{[], _∷_};
 ghost use Prim.Native.Nat.{_<_, _≤_};
@@ -20,7 +23,8 @@ ghost use Rattle.model.specs.Refusals.{firstRefusal};
 ghost use Rattle.model.specs.Loop.{noUse, size, opAt, allUses};
 ghost use Rattle.model.specs.File.{loopOf, Accepted};
 ghost use Rattle.reservation.specs.Seats.{brokenOf};
-ghost use Rattle.model.specs.Verifier.{lateStart, firstBroken, firstPair};
+ghost use Rattle.reservation.specs.Place.{placeOf, placeIs};
+ghost use Rattle.model.specs.Verifier.{lateStart, firstBroken, firstPair, pairPlace};
 ghost use Rattle.refusals.specs.Checked.{refusalOf};
 ghost use Rattle.verifier.specs.Answer.{pairOf};
 ghost use Rattle.verifier.specs.Walk.{oneEach, meetsAt, Proposal};
@@ -132,4 +136,15 @@ pub fn first_pair(file: &[u8], interval: usize, starts: &[u16]) -> Pair
         a = a + 1;
     }
     found
+}
+
+// The first place in which operation b of a pair meets a or, where they are one operation, itself.
+pub fn place_of(file: &[u8], interval: usize, starts: &[u16], a: usize, b: usize) -> Place
+    requires { ⌜ Accepted (now file) × Proposal (loopOf (now file)) interval (now starts) × (a ≤ b) × (b < size (loopOf (now file))) ⌝ }
+    ensures { λ r. ⌜ placeOf r ≡ placeIs (pairPlace (loopOf (now (file .entry))) interval (oneEach (loopOf (now (file .entry))) (now (starts .entry))) (a, b)) ⌝ }
+{
+    if a == b {
+        return own_place(file, b, first_use(file, b), interval);
+    }
+    shared_place(file, a, starts[a] as usize, b, starts[b] as usize, interval)
 }

@@ -8,7 +8,7 @@ use trial::file::first;
 use trial::loops::put_changed;
 use verifier::Verdict;
 
-// `: legal`, `: dependence E`, `: conflict A B`, or `: refused N at D`.
+// `: legal`, `: dependence E`, `: conflict A B at P`, or `: refused N at D`.
 fn print(found: Verdict) {
     match found {
         Verdict::Legal => {
@@ -17,8 +17,8 @@ fn print(found: Verdict) {
         Verdict::Broken(e) => {
             console::form(b": dependence %\n", [e, 0, 0, 0, 0]);
         }
-        Verdict::Conflict(a, b) => {
-            console::form(b": conflict % %\n", [a, b, 0, 0, 0]);
+        Verdict::Conflict(a, b, place) => {
+            console::form(b": conflict % % at %\n", [a, b, place, 0, 0]);
         }
         Verdict::Refused(n, detail) => {
             console::form(b": refused % at %\n", [n, detail, 0, 0, 0]);

@@ -5,6 +5,7 @@ use trial::drawn::Drawn;
 use trial::drawn::NOWHERE;
 use trial::drawn::holds;
 use trial::drawn::only;
+use trial::drawn::start_of;
 use trial::file;
 use trial::picture;
 use trial::random::next;
@@ -75,12 +76,21 @@ fn conflict(d: Drawn, starts: &[u16; 6], a: usize, b: usize) -> bool {
     both(&p, &q)
 }
 
-// The first pair that conflicts.
+// The place of their conflict: the first one in which b meets a cell of a, or a one of its own.
+fn place(d: Drawn, starts: &[u16; 6], a: usize, b: usize) -> usize {
+    let start = start_of(starts, b);
+    if a == b {
+        return picture::place([0u8; 24], d, a, start, d.interval, true);
+    }
+    picture::place(of_one(d, starts, a), d, b, start, d.interval, false)
+}
+
+// The first pair that conflicts, and where.
 fn first_pair(d: Drawn, starts: &[u16; 6]) -> Verdict {
     let mut k: usize = 0;
     while k < 9 {
         if (k / 3 <= k % 3) & conflict(d, starts, k / 3, k % 3) {
-            return Verdict::Conflict(k / 3, k % 3);
+            return Verdict::Conflict(k / 3, k % 3, place(d, starts, k / 3, k % 3));
         }
         k += 1;
     }
@@ -99,19 +109,25 @@ fn seen(d: Drawn, starts: &[u16; 6]) -> Verdict {
     first_pair(d, starts)
 }
 
-// A verdict as numbers: its count (1 legal, 2 a broken dependence, 3 a conflict of two, 4 of an operation with itself, 5 a refusal), and what it names.
-fn numbers(v: Verdict) -> [usize; 3] {
+// A verdict as numbers: its count (1 legal, 2 a broken dependence, 3 a conflict of two, 4 of an operation with itself, 5 a refusal), and what it names, of a conflict the two operations and the place.
+fn numbers(v: Verdict) -> [usize; 4] {
     match v {
-        Verdict::Legal => [1, 0, 0],
-        Verdict::Broken(e) => [2, e, 0],
-        Verdict::Conflict(a, b) => { if a == b { [4, a, b] } else { [3, a, b] } }
-        Verdict::Refused(n, detail) => [5, n, detail],
+        Verdict::Legal => [1, 0, 0, 0],
+        Verdict::Broken(e) => [2, e, 0, 0],
+        Verdict::Conflict(a, b, place) => {
+            if a == b {
+                [4, a, b, place]
+            } else {
+                [3, a, b, place]
+            }
+        }
+        Verdict::Refused(n, detail) => [5, n, detail, 0],
     }
 }
 
 // 0, the count of the lists that agree, where two verdicts are the same; else 6, which is none.
-fn agreed(v: &[usize; 3], w: &[usize; 3]) -> usize {
-    if (v[0] == w[0]) & (v[1] == w[1]) & (v[2] == w[2]) {
+fn agreed(v: &[usize; 4], w: &[usize; 4]) -> usize {
+    if (v[0] == w[0]) & (v[1] == w[1]) & (v[2] == w[2]) & (v[3] == w[3]) {
         0
     } else {
         6

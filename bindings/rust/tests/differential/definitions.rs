@@ -2,6 +2,7 @@
 //! or all lists of starts are for small loops.
 
 use plain::file::{Dependence, Loop};
+use plain::legality::Place;
 use plain::search::{NotFound, Request};
 use plain::{bounds, Refusal};
 use std::collections::BTreeSet;
@@ -72,6 +73,30 @@ pub fn is_legal(described: &Loop, interval: usize, starts: &[u16]) -> bool {
         }
     }
     all_hold && covered_once
+}
+
+/// The first cycle of the second of two operations, and in it the lowest slot, that is taken: by the first one or, where they
+/// are one operation, by its own earlier cycles.
+pub fn place(
+    described: &Loop,
+    interval: usize,
+    starts: &[u16],
+    first: usize,
+    second: usize,
+) -> Option<Place> {
+    // The slots and rows of an operation in a cycle, by rising slot.
+    let cells = |op: usize, cycle: usize| {
+        let row = (usize::from(starts[op]) + cycle) % interval;
+        let uses = described.operations[op].uses.iter();
+        uses.filter(move |u| cycle < usize::from(u.duration))
+            .map(move |u| (usize::from(u.slot), row))
+    };
+    (0..16).find_map(|cycle| {
+        let others = if first == second { cycle } else { 16 };
+        let taken: BTreeSet<_> = (0..others).flat_map(|k| cells(first, k)).collect();
+        let (slot, _) = cells(second, cycle).find(|cell| taken.contains(cell))?;
+        Some(Place { cycle, slot })
+    })
 }
 
 /// Up to so many lists of starts are gone through.

@@ -1,8 +1,8 @@
 //! What the plain implementation takes and answers, in the types of the crate.
 
-use mwelitunga::{Bounds, Counts, Found, Refusal, Request, SearchError, Verdict};
+use mwelitunga::{Bounds, Counts, Found, Place, Refusal, Request, SearchError, Verdict};
 use plain::file::Loop;
-use plain::{bounds, search, verifier};
+use plain::{bounds, legality, search, verifier};
 
 pub fn refusal(plain: plain::Refusal) -> Refusal {
     Refusal {
@@ -26,11 +26,26 @@ pub fn bounds(plain: bounds::Bounds) -> Bounds {
     }
 }
 
+pub fn place(plain: legality::Place) -> Place {
+    Place {
+        cycle: plain.cycle,
+        slot: plain.slot,
+    }
+}
+
 pub fn verdict(plain: verifier::Verdict) -> Verdict {
     match plain {
         verifier::Verdict::Legal => Verdict::Legal,
         verifier::Verdict::Broken { dependence } => Verdict::Broken { dependence },
-        verifier::Verdict::Conflict { first, second } => Verdict::Conflict { first, second },
+        verifier::Verdict::Conflict {
+            first,
+            second,
+            place: at,
+        } => Verdict::Conflict {
+            first,
+            second,
+            place: place(at),
+        },
     }
 }
 

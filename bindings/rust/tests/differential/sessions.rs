@@ -155,9 +155,21 @@ impl Tallies {
         for (call, reply) in calls.chunks(3).zip(replies.chunks(2)) {
             let answered = result(reply);
             self.calls.result(KINDS[call[0] as usize - 1], &answered);
-            if let (2, Ok(displaced)) = (call[0], answered) {
-                self.count_displaced(displaced);
+            match (call[0], answered) {
+                (2, Ok(displaced)) => self.count_displaced(displaced),
+                (1 | 2, Err(refusal)) if refusal.number == 17 => {
+                    self.count_conflict(call[0] == 2, refusal.detail)
+                }
+                _ => (),
             }
+        }
+    }
+
+    fn count_conflict(&mut self, forced: bool, place: usize) {
+        if forced {
+            self.calls.count("force that conflicts");
+        } else if place >= 32 {
+            self.calls.count("place that conflicts in a later cycle");
         }
     }
 
@@ -252,6 +264,8 @@ fn sessions() {
     for kind in KINDS {
         calls.at_least(5000, kind);
     }
+    calls.at_least(1000, "force that conflicts");
+    calls.at_least(1000, "place that conflicts in a later cycle");
     calls.at_least(2000, "force that displaces");
     calls.at_least(500, "force that displaces several");
     calls.at_least(100, "force that displaces one above 31");

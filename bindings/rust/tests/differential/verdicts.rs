@@ -54,7 +54,8 @@ fn count(tally: &mut Tally, verdict: &Verdict) {
     tally.count(match verdict {
         Verdict::Legal => "legal",
         Verdict::Broken { .. } => "broken",
-        Verdict::Conflict { first, second } if first == second => "conflict with itself",
+        Verdict::Conflict { first, second, .. } if first == second => "conflict with itself",
+        Verdict::Conflict { place, .. } if place.cycle > 0 => "conflict in a later cycle",
         Verdict::Conflict { .. } => "conflict",
     });
 }
@@ -63,7 +64,11 @@ fn numbers(verdict: &Verdict) -> Vec<usize> {
     match *verdict {
         Verdict::Legal => vec![0],
         Verdict::Broken { dependence } => vec![1, dependence],
-        Verdict::Conflict { first, second } => vec![2, first, second],
+        Verdict::Conflict {
+            first,
+            second,
+            place,
+        } => vec![2, first, second, place.number()],
     }
 }
 
@@ -82,6 +87,15 @@ fn verdicts() {
             count(&mut tally, verdict);
             let legal = definitions::is_legal(code, interval, &starts);
             assert_eq!(*verdict == Verdict::Legal, legal, "{}", case());
+            if let Verdict::Conflict {
+                first,
+                second,
+                place,
+            } = *verdict
+            {
+                let met = definitions::place(code, interval, &starts, first, second);
+                assert_eq!(met, Some(place), "{}", case());
+            }
         }
         assert_eq!(
             mwelitunga::verify(&file, interval, &starts),
@@ -101,5 +115,6 @@ fn verdicts() {
     for what in ["legal", "broken", "conflict", "conflict with itself"] {
         tally.at_least(500, what);
     }
+    tally.at_least(200, "conflict in a later cycle");
     tally.refusals_at_least(100, &[1, 2, 3, 4, 5, 6, 7, 15, 20]);
 }

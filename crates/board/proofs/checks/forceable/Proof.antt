@@ -1,17 +1,21 @@
 -- `checks::forceable` meets its contract: one law of `Refusals` for each return. Assumes nothing.
 use mathlib.Core.Path.{_≡_, sym, ap, _∙_}
+use mathlib.Core.Bool.{true}
 use mathlib.Core.Option.{none}
 use Prim.Native.Nat.{ℕ}
 use native.Mathlib.Omega.{arith}
 use lib.ListN.{replicate, length-replicate}
 use Rattle.model.specs.Refusals.{firstRefusal}
 use Rattle.model.specs.Legality.{firstBreach}
+use Rattle.model.specs.Loop.{opAt}
 use Rattle.model.specs.File.{loopOf}
+use Rattle.model.specs.Counts.{single, unused}
 use Rattle.model.proofs.File.{accepted-ok}
 use Rattle.reservation.specs.Seats.{seats, brokenOf}
+use Rattle.reservation.proofs.TakenCells.{found-range}
 use Rattle.refusals.specs.Checked.{refusalOf}
 use Rattle.board.specs.Checks.{asUnmet}
-use Rattle.board.proofs.Refusals.{common, known, force-early, force-broken, force-clash, force-fine}
+use Rattle.board.proofs.Refusals.{common, known, force-early, force-broken, force-last}
 use Rattle.board.proofs.checks.forceable.Statement.{statement}
 use Rattle.board.proofs.checks.forceable.Tie as tie
 
@@ -70,28 +74,40 @@ returns-2 c =
 held-is : (c : tie.After-enum-told3) → let a = start (c .before .before .before .before .before .before) .args in firstBreach (loopOf (a .file .now)) (a .interval) (seats (replicate 64 65535)) (a .op) (a .start) ≡ none
 held-is c = sym (c .before .before .first-broken .ensures) ∙ ap brokenOf (c .enum-told3 .given .1)
 
-too-long-requires : tie.Need-too-long-requires
-too-long-requires c κs =
+first-use-requires : tie.Need-first-use-requires
+first-use-requires c κs =
     let t = c .before .before .before .before in
     let k = t .before .before in
     let a = start k .args in
     (start k .pre .0, known (a .file .now) (a .horizon) (a .op) (a .start) (a .starts .now) (known-is t) .inside)
 
+own-place-requires : tie.Need-own-place-requires
+own-place-requires c κs =
+    let t = c .before .before .before .before .before in
+    let k = t .before .before in
+    let a = start k .args in
+    let p = start k .pre in
+    (p .0, known (a .file .now) (a .horizon) (a .op) (a .start) (a .starts .now) (known-is t) .inside, p .1 .some, p .1 .short, c .first-use .ensures)
+
+abbrev told : tie.After-own-place → tie.After-enum-told
+told c = c .before .before .before .before .before .before
+
+clash-requires : tie.Need-clash-requires
+clash-requires c κs =
+    let t = told c in
+    let k = t .before .before in
+    let a = start k .args in
+    let f = a .file .now in
+    let inside = known f (a .horizon) (a .op) (a .start) (a .starts .now) (known-is t) .inside in
+    found-range single unused true (a .interval) (opAt (loopOf f) (a .op)) 0 (accepted-ok f (start k .pre .0) .op-ok (a .op) inside) (c .own-place .result) (c .own-place .ensures 0)
+
 returns-3 : tie.Need-returns-3
 returns-3 c =
     let f = c .before in
-    let h = f .before in
-    let t = h .before .before .before .before in
+    let t = told f in
     let a = start (t .before .before) .args in
-    sym (force-clash (a .file .now) (a .interval) (a .horizon) (a .starts .now) (a .op) (a .start) (known-is t) 64 (held-is h) (sym (f .too-long .ensures) ∙ c .if1 .taken))
-
-returns-4 : tie.Need-returns-4
-returns-4 c =
-    let f = c .before in
-    let h = f .before in
-    let t = h .before .before .before .before in
-    let a = start (t .before .before) .args in
-    sym (force-fine (a .file .now) (a .interval) (a .horizon) (a .starts .now) (a .op) (a .start) (known-is t) 64 (held-is h) (sym (f .too-long .ensures) ∙ c .if1 .left))
+    ap refusalOf (c .clash .ensures)
+    ∙ force-last (a .file .now) (a .interval) (a .horizon) (a .starts .now) (a .op) (a .start) (known-is t) 64 (held-is (f .before .before)) (f .own-place .result) (f .own-place .ensures)
 
 pub forceable-spec : {M : Type 1} → statement M
 forceable-spec =
@@ -107,6 +123,7 @@ forceable-spec =
     enum-told-4
     unmet-requires
     returns-2
-    too-long-requires
-    returns-3
-    returns-4)
+    first-use-requires
+    own-place-requires
+    clash-requires
+    returns-3)

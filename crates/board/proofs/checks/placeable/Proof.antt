@@ -10,7 +10,7 @@ use Rattle.reservation.specs.Seats.{seats, brokenOf}
 use Rattle.reservation.proofs.TakenCells.{free-place, taken-place}
 use Rattle.refusals.specs.Checked.{refusalOf}
 use Rattle.board.specs.Checks.{asUnmet}
-use Rattle.board.proofs.Refusals.{common, known, place-early, place-broken, place-clash, place-fine}
+use Rattle.board.proofs.Refusals.{common, known, place-early, place-broken, place-range, place-last}
 use Rattle.board.proofs.checks.placeable.Statement.{statement}
 use Rattle.board.proofs.checks.placeable.Tie as tie
 
@@ -82,29 +82,24 @@ conflict-requires c κs =
     let p = start k .pre in
     (p .accepted, known (a .file .now) (a .horizon) (a .op) (a .start) (a .starts .now) (known-is t) .inside, omega (arith, known (a .file .now) (a .horizon) (a .op) (a .start) (a .starts .now) (known-is t) .soon, p .numbers .far), p .numbers .some, p .numbers .short, p .held .long, c .first-use .ensures)
 
-enum-told-5 : tie.Need-enum-told-5
-enum-told-5 c = omega arith
+abbrev told : tie.After-conflict → tie.After-enum-told
+told c = c .before .before .before .before .before .before
 
-enum-told-6 : tie.Need-enum-told-6
-enum-told-6 c = omega arith
+clash-requires : tie.Need-clash-requires
+clash-requires c κs =
+    let t = told c in
+    let k = t .before .before in
+    let a = start k .args in
+    place-range (a .file .now) (a .interval) (a .horizon) (a .starts .now) (a .rows .now) (start k .pre) (a .op) (a .start) (known-is t) (held-is (c .before .before)) (c .conflict .result) (c .conflict .ensures)
 
 returns-3 : tie.Need-returns-3
 returns-3 c =
-    let f = c .before .before in
-    let h = f .before .before in
-    let t = h .before .before .before .before in
+    let f = c .before in
+    let t = told f in
     let k = t .before .before in
     let a = start k .args in
-    sym (place-clash (a .file .now) (a .interval) (a .horizon) (a .starts .now) (a .rows .now) (start k .pre) (a .op) (a .start) (known-is t) (held-is h) (taken-place (f .conflict .result) _ _ _ (f .conflict .ensures) (c .enum-told6 .given .1)))
-
-returns-4 : tie.Need-returns-4
-returns-4 c =
-    let f = c .before .before in
-    let h = f .before .before in
-    let t = h .before .before .before .before in
-    let k = t .before .before in
-    let a = start k .args in
-    sym (place-fine (a .file .now) (a .interval) (a .horizon) (a .starts .now) (a .rows .now) (start k .pre) (a .op) (a .start) (known-is t) (held-is h) (free-place (f .conflict .result) _ (f .conflict .ensures) (c .enum-told5 .given .1)))
+    ap refusalOf (c .clash .ensures)
+    ∙ place-last (a .file .now) (a .interval) (a .horizon) (a .starts .now) (a .rows .now) (start k .pre) (a .op) (a .start) (known-is t) (held-is (f .before .before)) (f .conflict .result) (f .conflict .ensures)
 
 pub placeable-spec : {M : Type 1} → statement M
 placeable-spec =
@@ -121,7 +116,5 @@ placeable-spec =
     returns-2
     first-use-requires
     conflict-requires
-    enum-told-5
-    enum-told-6
-    returns-3
-    returns-4)
+    clash-requires
+    returns-3)

@@ -16,6 +16,9 @@ loop-holds c = tt
 conflict-requires : tie.Need-conflict-requires Inv-loop μ-loop
 conflict-requires c κs = tt
 
+place-requires : tie.Need-place-requires Inv-loop μ-loop
+place-requires c κs = tt
+
 returns : tie.Need-returns Inv-loop μ-loop
 returns c = tt
 
@@ -39,6 +42,7 @@ first-pair-spec =
     μ-loop
     loop-holds
     conflict-requires
+    place-requires
     returns
     add-k
     loop-less
