@@ -122,7 +122,7 @@ fn of_repository() -> Result<PathBuf, String> {
 /// Proves and builds the library in the repository.
 fn build(root: &Path) -> Result<(), String> {
     const WHY: &str =
-        "the library was not there: `rt staticlib mwelitunga` proves and builds it, which takes about two minutes";
+        "the library was not there: `rt staticlib mwelitunga` proves and builds it, which takes about four minutes";
     println!("cargo:warning={WHY}");
     eprintln!("mwelitunga: {WHY}");
     let status = Command::new("rt")
