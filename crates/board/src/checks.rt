@@ -5,6 +5,7 @@ use refusals::Checked;
 use reservation::Broken;
 use reservation::Place;
 use reservation::deps::first_broken;
+use reservation::number;
 use reservation::test::conflict;
 use reservation::test::own_place;
 ghost use mathlib.Core.Path.{_≡_};
@@ -45,15 +46,15 @@ fn unmet(b: Broken) -> Checked
     }
 }
 
-// The first taken place as a refusal, whose detail is 32 times the cycle and the slot.
+// The first taken place as a refusal, whose detail is its number.
 fn clash(p: Place) -> Checked
     requires { ⌜ InRange p ⌝ }
     ensures { λ c. ⌜ c ≡ asClash p ⌝ }
 {
-    match p {
-        Place::Free => Checked::Fine,
-        Place::Taken(k, slot) => Checked::Refused(17, 32 * k + slot),
-    }
+    let Place::Free = p else {
+        return Checked::Refused(17, number(p));
+    };
+    Checked::Fine
 }
 
 // Placing an operation at a start.

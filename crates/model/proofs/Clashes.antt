@@ -1,17 +1,17 @@
 -- Refusal 17 and the judge's clash are given exactly where there is a conflict; so the place is all that is new in them. Assumes nothing.
 use mathlib.Core.Path.{_≡_, refl, sym, ap, ap₂, _∙_}
-use mathlib.Core.Bool.{Bool, true, false, not, cond, _&&_}
+use mathlib.Core.Bool.{Bool, true, false, not, _&&_}
 use mathlib.Core.List.{List}
 use mathlib.Core.Option.{Option, none, some}
 use Prim.Native.Nat.{ℕ, _≤_, _<_}
 use native.Mathlib.Decide.{ℕ-discrete}
 use native.Mathlib.Omega.{arith}
 use borrow.Author.Tests.{eq-eqb, ne-eqb, le-leb, lt-ltb, leb-true, ltb-true, not-false}
-use lib.Dec.{eqb, leb, ltb}
+use lib.Dec.{leb, ltb}
 use lib.ListN.{length, getD}
 use Rattle.model.specs.Lists.{pairs}
 use Rattle.model.specs.Loop.{Use, Op, Loop, size, opAt, OpOk, LoopOk}
-use Rattle.model.specs.Legality.{Placing, placed, footprint, conflict, selfConflict, conflictAt, selfConflictAt, pairConflict, conflicts}
+use Rattle.model.specs.Legality.{Placing, placed, footprint, conflict, selfConflict, pairConflict, conflicts}
 use Rattle.model.specs.Counts.{placeNumber, numberOf, placeClash, ownClash, pairClash}
 use Rattle.model.specs.Session.{clashed}
 use Rattle.model.specs.Verifier.{clash, clashAt, judge, firstBroken, firstPair, pairPlace, verdict}

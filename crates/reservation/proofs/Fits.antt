@@ -8,7 +8,7 @@ use native.Mathlib.Nat.{zero-add, mod-lt}
 use native.Mathlib.Omega.{arith}
 use borrow.Author.Tests.{leb-true, le-leb, lt-leb, eq-eqb}
 use lib.Dec.{eqb, leb}
-use lib.ListN.{length, getD}
+use lib.ListN.{length}
 use Rattle.model.specs.Loop.{Use, Op, noUse, useAt, OpOk}
 use Rattle.model.specs.Legality.{Cell, covers}
 use Rattle.model.specs.Table.{countOf, IsTable, digitOf, Digits}

@@ -3,14 +3,14 @@ use mathlib.Core.Path.{_≡_}
 use mathlib.Core.Bool.{Bool, true, false, _&&_, _||_}
 use mathlib.Core.List.{List, map, flatMap}
 use mathlib.Core.Option.{Option, none, some}
-use Prim.Native.Nat.{ℕ, _+_, _%_, _≤_, _<_}
+use Prim.Native.Nat.{ℕ, _+_, _*_, _%_, _≤_, _<_}
 use lib.Dec.{eqb, leb}
 use lib.ListN.{getD}
 use Rattle.model.specs.Lists.{upFrom, first, maxOf}
 use Rattle.model.specs.Loop.{Use, Op}
 use Rattle.model.specs.Legality.{covers}
 use Rattle.model.specs.Table.{rowBase, digitOf}
-use Rattle.model.specs.Counts.{single, unused, firstTaken}
+use Rattle.model.specs.Counts.{ownClash}
 use Rattle.reservation.specs.declared.Place.{Place}
 use Rattle.reservation.specs.declared.Place.the-variants.{Free, Taken}
 use Rattle.reservation.specs.declared.test.Cycle.{Cycle}
@@ -64,9 +64,14 @@ placeInCycle k (some u) = some (k, u .slot)
 pub record InRange (r : Place) : Type 0 where
   pub small : (k s : ℕ) → placeOf r ≡ some (k, s) → (k < 16) × (s ≤ 24)
 
+-- its number: 32 times the cycle, and the slot; 0 where there is no place
+abbrev pub numberIn : Place → ℕ
+numberIn Free = 0
+numberIn (Taken k s) = 32 * k + s
+
 -- r says the first place in which operation p, wherever it is started, meets a cell that it covers itself in an earlier cycle
 abbrev pub OwnPlace : ℕ → Op → Place → Type 0
-OwnPlace ii p r = (s : ℕ) → placeOf r ≡ placeIs (firstTaken single unused true ii p s)
+OwnPlace ii p r = (s : ℕ) → placeOf r ≡ placeIs (ownClash ii p s)
 
 -- the rows are free for operation p, started at s: nothing is taken
 abbrev pub FreeAt : ℕ → List ℕ → Op → ℕ → Type 0

@@ -13,7 +13,7 @@ ghost use Rattle.model.specs.Lists.{first};
 ghost use Rattle.model.specs.Loop.{noUse, size, opAt, allUses};
 ghost use Rattle.model.specs.File.{loopOf, Accepted};
 ghost use Rattle.model.specs.Legality as legality;
-ghost use Rattle.model.specs.Counts.{single, usedBy, takenAt, firstTaken};
+ghost use Rattle.model.specs.Counts.{single, usedBy, takenAt, pairClash};
 ghost use Rattle.reservation.specs.Overlaps.{coversCell, useMeets};
 ghost use Rattle.reservation.specs.Place.{placeOf, placeInCycle, placeIs};
 
@@ -139,7 +139,7 @@ pub fn shared_place(
     interval: usize,
 ) -> Place
     requires { ⌜ Accepted (now file) × (a < size (loopOf (now file))) × (b < size (loopOf (now file))) × (from < 4096) × (to < 4096) × (1 ≤ interval) × (interval ≤ 4096) ⌝ }
-    ensures { λ r. ⌜ placeOf r ≡ placeIs (firstTaken single (usedBy interval (opAt (loopOf (now (file .entry))) a) from) false interval (opAt (loopOf (now (file .entry))) b) to) ⌝ }
+    ensures { λ r. ⌜ placeOf r ≡ placeIs (pairClash interval (opAt (loopOf (now (file .entry))) a) from (opAt (loopOf (now (file .entry))) b) to) ⌝ }
 {
     let mut k = 0;
     while k < 16 {

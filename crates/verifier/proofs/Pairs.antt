@@ -23,9 +23,8 @@ use Rattle.model.specs.Verifier.{clashAt, firstPair, pairPlace}
 use Rattle.model.specs.Verifier as model
 use Rattle.reservation.specs.declared.Place.{Place}
 use Rattle.reservation.specs.declared.Place.the-variants as place
-use Rattle.reservation.specs.Place.{placeOf, placeIs, InRange}
+use Rattle.reservation.specs.Place.{placeOf, placeIs, InRange, numberIn}
 use Rattle.reservation.proofs.TakenCells.{found-range}
-use Rattle.verifier.specs.Answer.{verdictOf, asConflict}
 use Rattle.verifier.specs.Walk.{oneEach, meetsAt, Proposal}
 
 -- ---- a pair
@@ -156,8 +155,8 @@ pair-range l ii xs a b ok h r e = go (ℕ-discrete a b)
     go (yes q) = found-range single unused true ii (opAt l b) (getD xs b 0) (ok .op-ok b h) r (rw (eq-eqb a b q) at e)
     go (no n) = found-range single (usedBy ii (opAt l a) (getD xs a 0)) false ii (opAt l b) (getD xs b 0) (ok .op-ok b h) r (rw (ne-eqb a b n) at e)
 
--- said as a verdict
-pub conflict-says : (a b : ℕ) (r : Place) (q : Option (ℕ × Use)) → placeOf r ≡ placeIs q → verdictOf (asConflict a b r) ≡ answered (clashAt (a, b) (numberOf q))
+-- said as a verdict with its number
+pub conflict-says : (a b : ℕ) (r : Place) (q : Option (ℕ × Use)) → placeOf r ≡ placeIs q → answered (model.clash a b (numberIn r)) ≡ answered (clashAt (a, b) (numberOf q))
 conflict-says a b place.Free none e = refl
 conflict-says a b place.Free (some q) e = let z : _≡_ {A = ℕ} 0 1 = cc in absurd (omega arith)
 conflict-says a b (place.Taken k s) none e = let z : _≡_ {A = ℕ} 0 1 = cc in absurd (omega arith)

@@ -1,6 +1,6 @@
 -- What the verifier's answers say, in document 01's numbers. Assumes nothing.
 use mathlib.Core.Option.{Option, none, some}
-use Prim.Native.Nat.{ℕ, _+_, _*_}
+use Prim.Native.Nat.{ℕ}
 use Rattle.model.specs.Refusals.{Answer, answered, refused}
 use Rattle.model.specs.Verifier as model
 use Rattle.refusals.specs.declared.Checked.{Checked}
@@ -9,8 +9,6 @@ use Rattle.verifier.specs.declared.Verdict.{Verdict}
 use Rattle.verifier.specs.declared.Verdict.the-variants as verdict
 use Rattle.reservation.specs.declared.Broken.{Broken}
 use Rattle.reservation.specs.declared.Broken.the-variants as broken
-use Rattle.reservation.specs.declared.Place.{Place}
-use Rattle.reservation.specs.declared.Place.the-variants as place
 use Rattle.verifier.specs.declared.walk.Pair.{Pair}
 use Rattle.verifier.specs.declared.walk.Pair.the-variants as pair
 
@@ -30,11 +28,6 @@ asRefused (checked.Refused n d) = verdict.Refused n d
 abbrev pub asBroken : Broken → Verdict
 asBroken broken.Nothing = verdict.Legal
 asBroken (broken.At e) = verdict.Broken e
-
--- a pair that conflicts, and the first place in which it does. (Such a pair has a place, so 0 is never said.)
-abbrev pub asConflict : ℕ → ℕ → Place → Verdict
-asConflict a b place.Free = verdict.Conflict a b 0
-asConflict a b (place.Taken k s) = verdict.Conflict a b (32 * k + s)
 
 -- what the walk over pairs says
 abbrev pub pairOf : Pair → Option (ℕ × ℕ)

@@ -6,14 +6,13 @@ use refusals::Checked;
 use refusals::lent;
 use refusals::range;
 use reservation::Broken;
-use reservation::Place;
+use reservation::number;
 use walk::Pair;
 ghost use mathlib.Core.Path.{_≡_};
 ghost use Rattle.model.specs.Refusals.{firstRefusal};
 ghost use Rattle.model.specs.Verifier.{proposedChecks, verifyFile};
 ghost use Rattle.refusals.specs.Checked.{refusalOf};
-ghost use Rattle.reservation.specs.Place.{InRange};
-ghost use Rattle.verifier.specs.Answer.{verdictOf, asRefused, asBroken, asConflict};
+ghost use Rattle.verifier.specs.Answer.{verdictOf, asRefused, asBroken};
 
 // Legal; the number of a broken dependence; the two operations of a conflict, with the first place in which the second meets the first, 32 times the cycle of the second and the slot; or a refusal with its number and
 // detail.
@@ -41,7 +40,7 @@ pub fn verify(file: &[u8], interval: usize, starts: &[u16]) -> Verdict
         return Verdict::Legal;
     };
     let place = walk::place_of(file, interval, starts, a, b);
-    conflict(a, b, place)
+    Verdict::Conflict(a, b, number(place))
 }
 
 // What any file, interval and list are refused for.
@@ -80,16 +79,5 @@ fn broken(b: Broken) -> Verdict
     match b {
         Broken::Nothing => Verdict::Legal,
         Broken::At(e) => Verdict::Broken(e),
-    }
-}
-
-// The verdict for a pair that conflicts, and the first place in which it does.
-fn conflict(a: usize, b: usize, place: Place) -> Verdict
-    requires { ⌜ InRange place ⌝ }
-    ensures { λ v. ⌜ v ≡ asConflict a b place ⌝ }
-{
-    match place {
-        Place::Free => Verdict::Conflict(a, b, 0),
-        Place::Taken(k, slot) => Verdict::Conflict(a, b, 32 * k + slot),
     }
 }

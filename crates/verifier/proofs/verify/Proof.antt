@@ -6,7 +6,7 @@ use Prim.Native.Nat.{ℕ}
 use native.Mathlib.Omega.{arith}
 use Rattle.model.specs.Refusals.{firstRefusal, answered}
 use Rattle.model.specs.File.{loopOf}
-use Rattle.model.specs.Verifier.{proposedChecks, judge, firstBroken, firstPair, pairPlace, verifyFile}
+use Rattle.model.specs.Verifier.{clash, proposedChecks, judge, firstBroken, firstPair, pairPlace, verifyFile}
 use Rattle.model.specs.Counts.{numberOf}
 use Rattle.model.proofs.File.{accepted-ok}
 use Rattle.model.proofs.Clashes.{PairFound, pair-found}
@@ -130,8 +130,8 @@ place-of-requires c κs =
     let a = start k .args in
     (pass-file (file k) (a .interval) (a .starts .now) (fine (after c)), pass-asked (file k) (a .interval) (a .starts .now) (fine (after c)), is-pair c .ordered, is-pair c .inside)
 
-conflict-requires : tie.Need-conflict-requires
-conflict-requires c κs =
+number-requires : tie.Need-number-requires
+number-requires c κs =
     let w = c .before in
     let k = after w .before .before in
     let a = start k .args in
@@ -143,7 +143,7 @@ returns-4 c =
     let p = c .before in
     let w = p .before in
     let k = after w .before .before in
-    ap verdictOf (c .conflict .ensures)
+    ap (λ (n : ℕ). answered (clash (one w) (other w) n)) (c .number .ensures)
     ∙ conflict-says (one w) (other w) (p .place-of .result) (pairPlace (loopOf (file k)) (start k .args .interval) (list k) (one w, other w)) (p .place-of .ensures)
     ∙ by-found (after w) none (some (one w, other w)) (none-broken (pair-at w .before)) (found w)
 
@@ -166,5 +166,5 @@ verify-spec =
     enum-told-5
     returns-3
     place-of-requires
-    conflict-requires
+    number-requires
     returns-4)

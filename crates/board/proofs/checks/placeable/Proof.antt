@@ -7,7 +7,6 @@ use Rattle.model.specs.Legality.{firstBreach}
 use Rattle.model.specs.File.{loopOf}
 use Rattle.model.proofs.File.{accepted-ok}
 use Rattle.reservation.specs.Seats.{seats, brokenOf}
-use Rattle.reservation.proofs.TakenCells.{free-place, taken-place}
 use Rattle.refusals.specs.Checked.{refusalOf}
 use Rattle.board.specs.Checks.{asUnmet}
 use Rattle.board.proofs.Refusals.{common, known, place-early, place-broken, place-range, place-last}

@@ -1,6 +1,6 @@
 -- `pairs::shared_place` meets its contract. The loop's invariant: in no cycle below k does operation b meet operation a. The measure is how many of the 16 cycles are left.
 -- Assumes nothing.
-use mathlib.Core.Path.{_≡_, sym, _∙_}
+use mathlib.Core.Path.{_≡_, sym}
 use mathlib.Core.Bool.{false}
 use mathlib.Core.Option.{none}
 use Prim.Native.Nat.{ℕ, _-_, _≤_, _<_}
