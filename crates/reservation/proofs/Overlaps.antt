@@ -1,16 +1,16 @@
 -- Conflicts of two operations, by uses and cycles. Assumes nothing.
 use mathlib.Core.Path.{_≡_, refl, sym, ap, _∙_}
-use mathlib.Core.Bool.{Bool, true, false, _&&_, and-false}
+use mathlib.Core.Bool.{Bool, true, false, _&&_}
 use Prim.Native.Nat.{ℕ, _+_, _%_, _≤_, _<_}
 use native.Mathlib.Nat.{add-zero}
 use native.Mathlib.Omega.{arith}
-use lib.Dec.{eqb, leb, ltb}
+use lib.Dec.{eqb, ltb}
 use lib.ListN.{length, getD}
-use borrow.Author.Tests.{le-leb, lt-leb, eq-eqb, ne-eqb, eqb-true, lt-ltb, ltb-true, le-ltb}
+use borrow.Author.Tests.{le-leb, eq-eqb, ne-eqb, eqb-true, lt-ltb, ltb-true, le-ltb}
 use Rattle.model.specs.Lists.{upFrom, anyOf}
 use Rattle.model.specs.Table.{countOf}
 use Rattle.model.specs.Loop.{Use, Op, Loop, noUse, size, opAt, useAt, allUses, firstUseOf, OpOk}
-use Rattle.model.specs.Legality.{sameCell, footprint, share, conflict}
+use Rattle.model.specs.Legality.{sameCell, covers, footprint, share, conflict}
 use Rattle.model.specs.Counts.{single, usedBy, takenAt}
 use Rattle.model.proofs.Lists.{and-left, and-right, same-test, any-count, none-count, any-row, row-any, row-some}
 use Rattle.model.proofs.Modular.{cycleOf, cycle-row, cycle-first}
@@ -140,17 +140,9 @@ module _ (ii : ℕ) (pos : 1 ≤ ii) (p q : Op) (ok : OpOk p) (s t : ℕ) where
 
 -- whether use v of an operation started at t meets in cycle k operation p, started at s
 module _ (ii s t k : ℕ) (p : Op) (v : Use) where
-  -- before its first cycle it does not
-  pub shared-early : k < v .offset → takenAt single (usedBy ii p s) false ii t k v ≡ false
-  shared-early h = rw (lt-leb (v .offset) k h)
-
-  -- when it is over it does not
-  pub shared-over : v .offset + v .duration ≤ k → takenAt single (usedBy ii p s) false ii t k v ≡ false
-  shared-over h = rw (le-ltb k (v .offset + v .duration) h, and-false (leb (v .offset) k))
-
   -- while it lasts, where p covers its slot in the row of the cycle
-  pub shared-cell : v .offset ≤ k → k < v .offset + v .duration → takenAt single (usedBy ii p s) false ii t k v ≡ coversCell ii p s (v .slot) ((t + k) % ii)
+  pub shared-cell : covers k v ≡ true → takenAt single (usedBy ii p s) false ii t k v ≡ coversCell ii p s (v .slot) ((t + k) % ii)
   unfolding coversCell
-  shared-cell g h =
+  shared-cell h =
       let n : ℕ = countOf (v .slot) ((t + k) % ii) (footprint ii p s) in
-      rw (le-leb (v .offset) k g, lt-ltb k (v .offset + v .duration) h, add-zero n) (sym (any-count _ (footprint ii p s)))
+      rw (h, add-zero n) (sym (any-count _ (footprint ii p s)))

@@ -1,5 +1,6 @@
 // Two operations at given starts: whether they meet in a cell, and where first. Internal: each function asks for an accepted file, and for starts and an interval in range.
 use crate::Place;
+use crate::test::covers_cycle;
 use loop_access::duration;
 use loop_access::first_use;
 use loop_access::offset;
@@ -93,11 +94,7 @@ fn shares(
     requires { ⌜ Accepted (now file) × (a < size (loopOf (now file))) × (u < length (allUses (loopOf (now file)))) × (from < 4096) × (to < 4096) × (k < 16) × (1 ≤ interval) × (interval ≤ 4096) ⌝ }
     ensures { λ r. ⌜ r ≡ takenAt single (usedBy interval (opAt (loopOf (now (file .entry))) a) from) false interval to k (getD (allUses (loopOf (now (file .entry)))) u noUse) ⌝ }
 {
-    let begin = offset(file, u);
-    if k < begin {
-        return false;
-    }
-    if begin + duration(file, u) <= k {
+    if !covers_cycle(file, u, k) {
         return false;
     }
     covers(file, a, from, slot(file, u), (to + k) % interval, interval)

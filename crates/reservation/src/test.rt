@@ -10,22 +10,31 @@ ghost use Prim.Native.Nat.{_+_, _<_, _≤_};
 ghost use lib.ListN.{length, getD};
 ghost use Rattle.model.specs.Loop.{noUse, size, opAt, allUses, firstUseOf};
 ghost use Rattle.model.specs.File.{loopOf, Accepted};
+ghost use Rattle.model.specs.Legality.{covers};
 ghost use Rattle.model.specs.Table.{rowBase};
 ghost use Rattle.reservation.specs.Place.{metBy, metIn, cyclesOf, cycleIs, firstMet, placeOf, placeIs, OwnPlace, FreeIs};
+
+// Whether use u of all covers its slot in cycle k of its operation.
+pub fn covers_cycle(file: &[u8], u: usize, k: usize) -> bool
+    requires { ⌜ Accepted (now file) × (u < length (allUses (loopOf (now file)))) ⌝ }
+    ensures { λ r. ⌜ r ≡ covers k (getD (allUses (loopOf (now (file .entry)))) u noUse) ⌝ }
+{
+    let from = offset(file, u);
+    if k < from {
+        return false;
+    }
+    k < from + duration(file, u)
+}
 
 // Whether use u of all meets a taken cell in cycle k of its operation, which falls into the row given.
 fn taken(file: &[u8], u: usize, k: usize, interval: usize, row: u64) -> bool
     requires { ⌜ Accepted (now file) × (u < length (allUses (loopOf (now file)))) × (k < 16) × (interval ≤ 4096) ⌝ }
     ensures { λ r. ⌜ r ≡ metBy rowBase interval row k (getD (allUses (loopOf (now (file .entry)))) u noUse) ⌝ }
 {
-    let from = offset(file, u);
-    if k < from {
+    if !covers_cycle(file, u, k) {
         return false;
     }
-    if from + duration(file, u) <= k {
-        return false;
-    }
-    if from + interval <= k {
+    if offset(file, u) + interval <= k {
         return true;
     }
     (row >> (slot(file, u) - 1)) & 1 == 1

@@ -143,8 +143,8 @@ pub fn place_of(file: &[u8], interval: usize, starts: &[u16], a: usize, b: usize
     requires { ⌜ Accepted (now file) × Proposal (loopOf (now file)) interval (now starts) × (a ≤ b) × (b < size (loopOf (now file))) ⌝ }
     ensures { λ r. ⌜ placeOf r ≡ placeIs (pairPlace (loopOf (now (file .entry))) interval (oneEach (loopOf (now (file .entry))) (now (starts .entry))) (a, b)) ⌝ }
 {
-    if a == b {
-        return own_place(file, b, first_use(file, b), interval);
+    if a < b {
+        return shared_place(file, a, starts[a] as usize, b, starts[b] as usize, interval);
     }
-    shared_place(file, a, starts[a] as usize, b, starts[b] as usize, interval)
+    own_place(file, b, first_use(file, b), interval)
 }

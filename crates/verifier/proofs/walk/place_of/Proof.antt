@@ -1,4 +1,4 @@
--- `walk::place_of` meets its contract: the two functions of `reservation` say it of one operation and of two. Assumes nothing.
+-- `walk::place_of` meets its contract: the two functions of `reservation` say it of two operations and of one. Assumes nothing.
 use borrow.Author.Needs.{needs}
 use mathlib.Core.Path.{sym, ap, _∙_}
 use Prim.Native.Nat.{_<_}
@@ -15,20 +15,6 @@ use Rattle.verifier.proofs.walk.place_of.Tie as tie
 -- the first operation of the pair is there
 first-in : (s : tie.Start) → s .args .a < size (loopOf (s .args .file .now))
 first-in s = omega (arith, s .pre .2, s .pre .3)
-
-first-use-requires : tie.Need-first-use-requires
-first-use-requires c κs = search needs
-
-own-place-requires : tie.Need-own-place-requires
-own-place-requires c κs = search needs
-
-returns : tie.Need-returns
-returns c =
-    let s = c .before .before .before .before .before in
-    let a = s .args in
-    let l = loopOf (a .file .now) in
-    let list = oneEach l (a .starts .now) in
-    c .own-place .ensures (getD list (a .b) 0) ∙ sym (ap placeIs (pair-own l (a .interval) list (a .a) (a .b) (omega arith)))
 
 mul-shared-place : tie.Need-mul-shared-place
 mul-shared-place c = search needs
@@ -54,19 +40,30 @@ shared-place-requires c κs =
     let p = s .pre in
     (p .0, first-in s, p .3, p .1 .early (s .args .a) (first-in s), p .1 .early (s .args .b) (p .3), p .1 .some, p .1 .short)
 
-returns-2 : tie.Need-returns-2
-returns-2 c =
+returns : tie.Need-returns
+returns c =
     let s = c .before .before .before .before .before .before in
     let a = s .args in
     c .shared-place .ensures ∙ sym (ap placeIs (pair-two (loopOf (a .file .now)) (a .interval) (a .starts .now) (a .a) (a .b) (λ e. omega arith) (first-in s) (s .pre .3)))
+
+first-use-requires : tie.Need-first-use-requires
+first-use-requires c κs = search needs
+
+own-place-requires : tie.Need-own-place-requires
+own-place-requires c κs = search needs
+
+returns-2 : tie.Need-returns-2
+returns-2 c =
+    let s = c .before .before .before .before .before in
+    let a = s .args in
+    let l = loopOf (a .file .now) in
+    let list = oneEach l (a .starts .now) in
+    c .own-place .ensures (getD list (a .b) 0) ∙ sym (ap placeIs (pair-own l (a .interval) list (a .a) (a .b) (omega (arith, s .pre .2))))
 
 pub place-of-spec : {M : Type 1} → statement M
 place-of-spec =
     tie.close
     (tie.spec
-    first-use-requires
-    own-place-requires
-    returns
     mul-shared-place
     shared-slice-read-shared-place
     cast-shared-place
@@ -74,4 +71,7 @@ place-of-spec =
     shared-slice-read-shared-place-2
     cast-shared-place-2
     shared-place-requires
+    returns
+    first-use-requires
+    own-place-requires
     returns-2)
