@@ -117,7 +117,9 @@ size_t mw_verify(
  * cap: 1 to 4096. horizon: 1 to 4096. budget: how many probes may be made, 1 to 1000000.
  * starts: room for one start an operation; MW_OPERATIONS_MOST is enough for every file. rows: scratch, MW_SEARCH_ROWS or more.
  *
- * answer[1]: the interval. answer[2], [3]: the resource and the recurrence bound. answer[4]: the number of stages. answer[5]: the probes made.
+ * answer[1]: the interval. answer[2], [3]: the resource and the recurrence bound. answer[4]: the number of stages: the last occupied cycle
+ * divided by the interval, rounded down, plus 1. An operation occupies as many cycles from its start on as its latency says, at least one.
+ * answer[5]: the probes made.
  * Refusals: 1 to 6, 7, 20, 8, 9, 10, 11. Of 10 and 11, answer[5] is the probes made; for 11 that is the budget.
  *
  * What it leaves: where the result is 0, the starts of the operations stand first in `starts`, and the rest of it is as it was; after any
@@ -136,7 +138,7 @@ size_t mw_search(
  *
  * cap, horizon, budget, starts, rows: as those of mw_search. The budget is that of the search, where one is made.
  *
- * answer[1]: the interval. answer[2], [3]: the resource and the recurrence bound. answer[4]: the number of stages.
+ * answer[1]: the interval. answer[2], [3]: the resource and the recurrence bound. answer[4]: the number of stages, as mw_search counts them.
  * answer[5]: 1 where no smaller interval has a legal list of starts below the horizon; 0 where that is not known.
  * Refusals: 1 to 6, 7, 20, 8, 9, 10, 11. Of 10 and 11, answer[5] is the probes made; they are those of mw_search.
  *

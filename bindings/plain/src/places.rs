@@ -24,10 +24,10 @@ pub fn order(interval: usize, starts: &[u16], op: usize) -> usize {
     starts.iter().enumerate().filter(before).count()
 }
 
-/// The number of stages: with E the largest start + latency, E + 1 divided by the interval, rounded up.
+/// The number of stages: one more than the stage of the last occupied cycle. An operation occupies as many cycles from its
+/// start on as its latency says, at least one.
 pub fn stages(code: &Loop, interval: usize, starts: &[u16]) -> usize {
-    let ends = code.operations.iter().zip(starts);
-    let ends = ends.map(|(op, &start)| usize::from(start) + usize::from(op.latency));
-    let end = ends.max().expect("a loop has an operation");
-    (end + 1).div_ceil(interval)
+    let placed = code.operations.iter().zip(starts);
+    let last = placed.map(|(op, &start)| usize::from(start) + usize::from(op.latency.max(1)) - 1);
+    stage(interval, last.max().expect("a loop has an operation")) + 1
 }

@@ -16,7 +16,7 @@ pub struct Plan {
     pub interval: usize,
     /// The two lower bounds of the interval.
     pub bounds: Bounds,
-    /// The number of stages.
+    /// The number of stages, as that of a [`Schedule`](crate::Schedule).
     pub stages: usize,
     /// Whether no smaller interval has a legal list of starts below the horizon; `false` where that is not known.
     pub smallest: bool,

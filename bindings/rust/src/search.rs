@@ -39,7 +39,8 @@ pub struct Found {
     pub interval: usize,
     /// The two lower bounds.
     pub bounds: Bounds,
-    /// The number of stages.
+    /// The number of stages: one more than the stage of the last cycle that an operation occupies. It occupies as many cycles
+    /// from its start on as its latency says, at least one.
     pub stages: usize,
     /// How many probes were made.
     pub probes: usize,
@@ -54,7 +55,8 @@ pub struct Schedule {
     pub interval: usize,
     /// The two lower bounds of the interval.
     pub bounds: Bounds,
-    /// The number of stages.
+    /// The number of stages: one more than the stage of the last cycle that an operation occupies. It occupies as many cycles
+    /// from its start on as its latency says, at least one.
     pub stages: usize,
     /// How many probes were made.
     pub probes: usize,
@@ -113,7 +115,7 @@ impl From<SearchError> for Refusal {
 /// assert_eq!(schedule.starts, [0, 2, 5]);
 /// assert_eq!(
 ///     schedule.to_string(),
-///     "interval 3 resource 2 recurrence 3 stages 3 probes 10\n\
+///     "interval 3 resource 2 recurrence 3 stages 2 probes 10\n\
 ///      op 0 start 0 stage 0 cycle 0 order 0\n\
 ///      op 1 start 2 stage 0 cycle 2 order 1\n\
 ///      op 2 start 5 stage 1 cycle 2 order 0"
@@ -156,7 +158,7 @@ pub fn search(file: &[u8], request: Request) -> Result<Schedule, SearchError> {
 /// let mut starts = [7; 5];
 /// let mut rows = [0; SEARCH_ROWS];
 /// let found = search_in(&file, Request::default(), &mut starts, &mut rows)?;
-/// assert_eq!((found.interval, found.stages, found.probes), (3, 3, 10));
+/// assert_eq!((found.interval, found.stages, found.probes), (3, 2, 10));
 /// assert_eq!(starts, [0, 2, 5, 7, 7]);
 /// # Ok::<(), Box<dyn std::error::Error>>(())
 /// ```

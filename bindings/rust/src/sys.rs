@@ -55,7 +55,8 @@ extern "C" {
     ) -> usize;
 
     /// The search. `answer[1]`: the interval. `answer[2]`, `[3]`: the resource and the recurrence bound. `answer[4]`:
-    /// the number of stages. `answer[5]`: the probes made, also for refusals 10 and 11.
+    /// the number of stages, the last occupied cycle divided by the interval, plus 1. `answer[5]`: the probes made, also for
+    /// refusals 10 and 11.
     ///
     /// Refusals: 1 to 6, 7, 20 for the starts and then for the rows, 8, 9, then 10 or 11. The starts are written
     /// where the result is 0, one for each operation. The first 4,096 rows are cleared where it is 0, 10 or 11.

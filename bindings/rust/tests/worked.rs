@@ -151,6 +151,7 @@ fn case_4_probes_over_two_intervals() {
     let schedule = search(&loop_b2(), short(4, 8)).unwrap();
     assert_eq!(schedule.interval, 4);
     assert_eq!(schedule.starts, [0, 3, 0]);
+    assert_eq!(schedule.stages, 1);
     assert_eq!(schedule.probes, 72 + 6);
 }
 
@@ -176,6 +177,7 @@ fn case_6_an_operation_before_one_of_a_smaller_number() {
     let schedule = search(&loop_c(), short(4096, 8)).unwrap();
     assert_eq!(schedule.interval, 1);
     assert_eq!(schedule.starts, [2, 0]);
+    assert_eq!(schedule.stages, 3);
     assert_eq!(schedule.probes, 20);
 }
 
@@ -266,6 +268,17 @@ fn case_13_the_largest_recurrence_bound() {
         .map(|op| (op, (op + 1) % 64, 64, i32::from(op == 63)))
         .collect();
     assert_eq!(recurrence(&only_dependences(64, &ring)), 4096);
+}
+
+/// Loop C with other latencies of operation 0, which starts at 2: at interval 1 each cycle is a stage.
+#[test]
+fn the_last_stage_has_an_occupied_cycle() {
+    let stages = |latency| {
+        let file = file(&[(latency, &[(1, 1)]), (1, &[(2, 1)])], &[(1, 0, 2, 0)]);
+        search(&file, short(4096, 8)).unwrap().stages
+    };
+    assert_eq!([0, 1, 2, 64].map(stages), [3, 3, 4, 66]);
+    assert_eq!(search(&loop_a(), Request::default()).unwrap().stages, 2);
 }
 
 #[test]
@@ -377,7 +390,7 @@ fn plans_at_the_bound_need_no_search() {
     assert_eq!(planned(&loop_c(), one_probe), (1, vec![2, 0], true));
     assert_eq!(
         plan(&loop_a(), one_probe).unwrap().to_string(),
-        "interval 3 resource 2 recurrence 3 stages 3 smallest\n\
+        "interval 3 resource 2 recurrence 3 stages 2 smallest\n\
          op 0 start 0 stage 0 cycle 0 order 0\n\
          op 1 start 2 stage 0 cycle 2 order 1\n\
          op 2 start 5 stage 1 cycle 2 order 0"
@@ -395,7 +408,7 @@ fn plans_above_the_bound_are_smallest_where_the_search_ends() {
     assert_eq!(planned(&file, with_budget(72)), (4, vec![0, 3, 0], true));
     assert_eq!(planned(&file, with_budget(71)), (4, vec![0, 3, 0], false));
     let legal = plan(&file, with_budget(71)).unwrap().to_string();
-    assert!(legal.starts_with("interval 4 resource 3 recurrence 1 stages 2 legal\nop 0 start 0 "));
+    assert!(legal.starts_with("interval 4 resource 3 recurrence 1 stages 1 legal\nop 0 start 0 "));
     for request in [short(3, 8), short(2, 8), short(4, 3)] {
         assert_eq!(
             plan(&file, request),

@@ -12,7 +12,7 @@ use Rattle.model.specs.File.{readFile, signedByte, firstUse, loopOf, len
 use Rattle.model.specs.Legality.{holds, meets, firstBreach, cellsIn, footprint, share, conflict, selfConflict, apart, legalAt}
 use Rattle.model.specs.Table.{number, rowNumber, tableOf, cellsOf}
 use Rattle.model.specs.Bounds.{totalOn, resourceBound, Feasible, Closed, delayOf, distanceOf, Heavy, LowerIs, cyclic, within, BoundsIs, by-loop}
-use Rattle.model.specs.Search.{words, answer, probes, stageCount, lastEnd, orderOf, listing, sweep, requestChecks, roomChecks, searchChecks, intervals, Request, Outcome, SearchIs, by-sweep}
+use Rattle.model.specs.Search.{words, answer, probes, stageCount, lastOccupied, orderOf, listing, sweep, requestChecks, roomChecks, searchChecks, intervals, Request, Outcome, SearchIs, by-sweep}
 use Rattle.model.specs.Session.{Setup, Starts, Call, Reply, start, stateTable, openChecks, openFile, inTheWay, without, maskOf, step, after, replies}
 use Rattle.model.specs.Counts.{firstTaken}
 use Rattle.model.specs.Verifier.{proposalChecks, proposedChecks, firstBroken, firstPair, pairPlace, verdict, verifyFile}
@@ -23,7 +23,7 @@ use Rattle.model.proofs.Bounds.{refutes}
 
 -- to unfold this is to unfold every definition that the cases compute with
 computing : Unit {0}
-unfolding readFile fileChecks firstRefusal lengthChecks headChecks standsAt entryChecks contentsChecks opChecks useChecks opUseChecks usesChecks depChecks flatMap upFrom firstUse loopOf signedByte meets anyOf holds totalOn resourceBound sumOf maxOf delayOf distanceOf searchChecks requestChecks roomChecks sweep words answer probes first countIf pairs cellsIn footprint firstTaken share conflict selfConflict apart legalAt stageCount lastEnd verifyFile proposalChecks proposedChecks firstBroken firstPair pairPlace verdict openFile openChecks firstBreach inTheWay without maskOf step after replies orderOf listing number rowNumber tableOf cellsOf
+unfolding readFile fileChecks firstRefusal lengthChecks headChecks standsAt entryChecks contentsChecks opChecks useChecks opUseChecks usesChecks depChecks flatMap upFrom firstUse loopOf signedByte meets anyOf holds totalOn resourceBound sumOf maxOf delayOf distanceOf searchChecks requestChecks roomChecks sweep words answer probes first countIf pairs cellsIn footprint firstTaken share conflict selfConflict apart legalAt stageCount lastOccupied verifyFile proposalChecks proposedChecks firstBroken firstPair pairPlace verdict openFile openChecks firstBreach inTheWay without maskOf step after replies orderOf listing number rowNumber tableOf cellsOf
 computing = tt
 
 -- ---- bounds
@@ -97,7 +97,7 @@ lower-C : LowerIs (loopOf fileC) (answered (record { resource = 1; recurrence = 
 unfolding computing
 lower-C = lower-one fileC (record { starts = 2 ∷ 0 ∷ []; all-ops = refl; all-met = refl })
 
-search-A : CaseHolds (searched fileA (record { cap = 4096; horizon = 8; budget = 1000000 }) (foundAt 3 2 3 3 10 (0 ∷ 2 ∷ 5 ∷ [])))
+search-A : CaseHolds (searched fileA (record { cap = 4096; horizon = 8; budget = 1000000 }) (foundAt 3 2 3 2 10 (0 ∷ 2 ∷ 5 ∷ [])))
 unfolding computing
 search-A = by-sweep (record { resource = 2; recurrence = 3 }) refl lower-A refl
 
@@ -107,7 +107,7 @@ search-B2 : {q : Request} {a : Outcome} → firstRefusal (searchChecks fileB2 q 
     → SearchIs fileB2 q 64 4096 (answered a)
 search-B2 passes comes = by-sweep (record { resource = 3; recurrence = 1 }) passes lower-B2 (ap answered (sym comes))
 
-case-6 : CaseHolds (searched fileC (record { cap = 4096; horizon = 8; budget = 1000000 }) (foundAt 1 1 1 4 20 (2 ∷ 0 ∷ [])))
+case-6 : CaseHolds (searched fileC (record { cap = 4096; horizon = 8; budget = 1000000 }) (foundAt 1 1 1 3 20 (2 ∷ 0 ∷ [])))
 unfolding computing
 case-6 = by-sweep (record { resource = 1; recurrence = 1 }) refl lower-C refl
 

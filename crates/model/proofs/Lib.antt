@@ -19,6 +19,7 @@ pub mod Room
 pub mod Clashes
 pub mod Bounds
 pub mod Answers
+pub mod Stages
 pub mod Verifier
 pub mod Session
 pub mod Good

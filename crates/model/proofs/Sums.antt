@@ -4,7 +4,7 @@ use mathlib.Core.Bool.{Bool, cond}
 use mathlib.Core.List.{List, [], _∷_, _++_, flatMap}
 use Prim.Native.Nat.{ℕ, zero, suc, _+_, _-_, _*_, _≤_, _<_, max}
 use native.Mathlib.Numerals.{add-one}
-use native.Mathlib.Decide.{ℕ-discrete}
+use native.Mathlib.Decide.{ℕ-discrete, decLe}
 use native.Mathlib.Omega.{arith}
 use Rattle.model.specs.Lists.{upFrom, countIf, sumOf, maxOf}
 use Rattle.model.proofs.Lists.{upFrom-split, sum-append, sum-add, sum-none, sum-around}
@@ -93,3 +93,25 @@ pub max-same : (f g : ℕ → ℕ) (a n : ℕ) → ((k : ℕ) → a ≤ k → k 
 unfolding maxOf upFrom
 max-same f g a zero h = refl
 max-same f g a (suc n) h = ap₂ max (h a (omega arith) (omega arith)) (max-same f g (suc a) n (λ k l m. h k (omega arith) (omega arith)))
+
+-- no number of a row is above its largest
+pub max-above : (f : ℕ → ℕ) (a n k : ℕ) → a ≤ k → k < a + n → f k ≤ maxOf f (upFrom a n)
+unfolding maxOf upFrom
+max-above f a zero k l m = absurd (omega arith)
+max-above f a (suc n) k l m = pick (ℕ-discrete k a) (max-above f (suc a) n k)
+  where
+    pick : Dec (k ≡ a) → (suc a ≤ k → k < suc a + n → f k ≤ maxOf f (upFrom (suc a) n)) → f k ≤ max (f a) (maxOf f (upFrom (suc a) n))
+    pick (yes e) ih = rw e (omega arith)
+    pick (no d) ih = omega (arith, ih (omega arith) (omega arith))
+
+-- the largest of a row is one of its numbers
+pub max-one : (f : ℕ → ℕ) (a n : ℕ) → 1 ≤ n → (k : ℕ) × (k < a + n) × (maxOf f (upFrom a n) ≡ f k)
+unfolding maxOf upFrom
+max-one f a zero some = absurd (omega arith)
+max-one f a (suc zero) some = (a, omega arith, omega arith)
+max-one f a (suc (suc n)) some = pick (max-one f (suc a) (suc n) (omega arith)) (decLe (f a) (maxOf f (upFrom (suc a) (suc n))))
+  where
+    pick : (k : ℕ) × (k < suc a + suc n) × (maxOf f (upFrom (suc a) (suc n)) ≡ f k) → Dec (f a ≤ maxOf f (upFrom (suc a) (suc n)))
+        → (k : ℕ) × (k < a + suc (suc n)) × (max (f a) (maxOf f (upFrom (suc a) (suc n))) ≡ f k)
+    pick w (yes m) = (w .0, omega (arith, w .1), omega (arith, w .2))
+    pick w (no m) = (a, omega arith, omega arith)

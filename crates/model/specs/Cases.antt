@@ -141,7 +141,7 @@ line start stage cycle order = record { start-at = start; stage-of = stage; cycl
 abbrev pub starred : List Case
 starred =
     reads fileA (answered loopA)
-    ∷ searched fileA (record { cap = 4096; horizon = 8; budget = 1000000 }) (foundAt 3 2 3 3 10 (0 ∷ 2 ∷ 5 ∷ []))
+    ∷ searched fileA (record { cap = 4096; horizon = 8; budget = 1000000 }) (foundAt 3 2 3 2 10 (0 ∷ 2 ∷ 5 ∷ []))
     ∷ listed 3 (0 ∷ 2 ∷ 5 ∷ []) (line 0 0 0 0 ∷ line 2 0 2 1 ∷ line 5 1 2 0 ∷ [])
     -- 1
     ∷ bounded fileA (bothAre 2 3)
@@ -152,10 +152,10 @@ starred =
     ∷ judged fileB 2 (0 ∷ 3 ∷ []) (answered isLegal)
     ∷ judged fileB 3 (0 ∷ 3 ∷ []) (answered (clash 0 1 1))
     ∷ judged fileB 4 (0 ∷ 3 ∷ []) (answered isLegal)
-    -- 4; the stage count is 5 divided by 4, rounded up
-    ∷ searched fileB2 (record { cap = 4; horizon = 8; budget = 1000000 }) (foundAt 4 3 1 2 78 (0 ∷ 3 ∷ 0 ∷ []))
+    -- 4; the last occupied cycle is 3, in stage 0
+    ∷ searched fileB2 (record { cap = 4; horizon = 8; budget = 1000000 }) (foundAt 4 3 1 1 78 (0 ∷ 3 ∷ 0 ∷ []))
     -- 5, not starred: 11 and 10; and the budget spent exactly, at the answer and at the end of an interval
-    ∷ searched fileB2 (record { cap = 4; horizon = 8; budget = 78 }) (foundAt 4 3 1 2 78 (0 ∷ 3 ∷ 0 ∷ []))
+    ∷ searched fileB2 (record { cap = 4; horizon = 8; budget = 78 }) (foundAt 4 3 1 1 78 (0 ∷ 3 ∷ 0 ∷ []))
     ∷ searched fileB2 (record { cap = 4; horizon = 8; budget = 72 }) (endedAt 11 4 72)
     ∷ searched fileB2 (record { cap = 3; horizon = 8; budget = 72 }) (endedAt 10 3 72)
     ∷ searched fileB2 (record { cap = 4; horizon = 8; budget = 77 }) (endedAt 11 4 77)
@@ -163,8 +163,8 @@ starred =
     ∷ searched fileB2 (record { cap = 3; horizon = 8; budget = 1000000 }) (endedAt 10 3 72)
     ∷ searched fileB2 (record { cap = 2; horizon = 8; budget = 1000000 }) (endedAt 10 2 0)
     ∷ searched fileB2 (record { cap = 4; horizon = 3; budget = 1000000 }) (endedAt 10 4 24)
-    -- 6; the stage count is 4 divided by 1
-    ∷ searched fileC (record { cap = 4096; horizon = 8; budget = 1000000 }) (foundAt 1 1 1 4 20 (2 ∷ 0 ∷ []))
+    -- 6; the last occupied cycle is 2, in stage 2
+    ∷ searched fileC (record { cap = 4096; horizon = 8; budget = 1000000 }) (foundAt 1 1 1 3 20 (2 ∷ 0 ∷ []))
     -- 7; -1 is the byte 255
     ∷ bounded (ring 1 0 0 0) (refused (record { number = 8; detail = 0 }))
     ∷ bounded (ring 1 0 255 0) (bothAre 1 1)

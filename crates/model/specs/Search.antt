@@ -3,11 +3,10 @@ use mathlib.Core.Path.{_≡_}
 use mathlib.Core.Bool.{Bool, true, false, cond, _&&_, _||_}
 use mathlib.Core.List.{List, [], _∷_, _++_, map, flatMap, dropLast}
 use mathlib.Core.Option.{Option, none, some}
-use Prim.Native.Nat.{ℕ, zero, suc, _+_, _-_, _/_, _%_, max}
+use Prim.Native.Nat.{ℕ, zero, suc, _+_, _-_, _/_, _%_, _≤_, _<_, max}
 use lib.Dec.{eqb, ltb}
 use lib.ListN.{length, getD, take, drop, replicate}
 use Rattle.model.specs.Lists.{upFrom, first, countIf, maxOf}
-use Rattle.model.specs.Integers.{ceilDiv}
 use Rattle.model.specs.Refusals.{Refusal, Check, range, lent, firstRefusal, Answer, answered, refused}
 use Rattle.model.specs.Loop.{Loop, size, opAt}
 use Rattle.model.specs.File.{fileChecks, loopOf}
@@ -49,7 +48,7 @@ tried L a q = L (dropLast q) && reached a q
 unfoldable pub probes : (List ℕ → Bool) → ℕ → ℕ → ℕ
 probes L h n = countIf (tried L (answer L h n)) (words h n)
 
--- ---- stages (source document 000)
+-- ---- stages (source document 000; the stage count: document 02, order 2)
 
 -- the start of operation o, 0 past the end of the list
 abbrev pub startOf : List ℕ → ℕ → ℕ
@@ -88,13 +87,35 @@ lineOf ii xs o = record { start-at = startOf xs o; stage-of = stage ii (startOf 
 unfoldable pub listing : ℕ → List ℕ → List Line
 listing ii xs = map (lineOf ii xs) (upFrom 0 (length xs))
 
--- the largest start + latency
-unfoldable pub lastEnd : Loop → List ℕ → ℕ
-lastEnd l xs = maxOf (λ o. startOf xs o + opAt l o .latency) (upFrom 0 (size l))
+-- how many cycles operation o occupies, from its start on: its latency, at least one
+abbrev pub occupiedBy : Loop → ℕ → ℕ
+occupiedBy l o = max 1 (opAt l o .latency)
 
--- the stage count
+-- the last cycle that it occupies
+abbrev pub lastCycle : Loop → List ℕ → ℕ → ℕ
+lastCycle l xs o = startOf xs o + occupiedBy l o - 1
+
+-- the last occupied cycle: the largest of these
+unfoldable pub lastOccupied : Loop → List ℕ → ℕ
+lastOccupied l xs = maxOf (lastCycle l xs) (upFrom 0 (size l))
+
+-- the stage count: the stage of the last occupied cycle, plus 1
 unfoldable pub stageCount : Loop → ℕ → List ℕ → ℕ
-stageCount l ii xs = ceilDiv (lastEnd l xs + 1) ii
+stageCount l ii xs = stage ii (lastOccupied l xs) + 1
+
+-- operation o occupies cycle t
+abbrev pub Occupies : Loop → List ℕ → (o t : ℕ) → Type 0
+Occupies l xs o t = (o < size l) × (startOf xs o ≤ t) × (t < startOf xs o + occupiedBy l o)
+
+-- in plain words, for laws: n is one more than the largest stage of an occupied cycle. So the last of n stages is not empty
+pub record LastStage (l : Loop) (ii : ℕ) (xs : List ℕ) (n : ℕ) : Type 0 where
+  -- every occupied cycle is in one of n stages
+  pub within : (o t : ℕ) → Occupies l xs o t → stage ii t < n
+  -- an operation occupies a cycle of the last of them
+  pub op : ℕ
+  pub at : ℕ
+  pub occupies : Occupies l xs op at
+  pub is-last : stage ii at + 1 ≡ n
 
 -- ---- the request, and what it is refused for
 

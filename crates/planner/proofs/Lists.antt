@@ -64,6 +64,10 @@ module _ {f : List ℕ} {n resource recurrence cap horizon budget : ℕ} {list r
     pub as-wide : length starts′ ≡ 64
     as-wide = t .untouched .starts-length ∙ wide
 
+    -- and it can be kept
+    pub keepable : {list₂ : List ℕ} → length list₂ ≡ length list → Keepable f n starts′ list₂
+    keepable e = record { accepted = p .accepted; is-size = p .is-size; wide = as-wide; room = omega (arith, p .room) }
+
     module _ (there : quick ≡ 0 → ⊥) where
       -- it is legal
       quick-at : LegalAt l q b quick (take n starts′)
@@ -76,17 +80,6 @@ module _ {f : List ℕ} {n resource recurrence cap horizon budget : ℕ} {list r
             listed = (long ∙ p .is-size, λ i m. let k : i < n = omega (arith, long) in omega (arith, getD-take n starts′ i 0 k, g .schedule .near i k));
             is-legal = g .schedule .fine;
           }
-
-      -- and can be kept
-      pub keepable : {list₂ : List ℕ} → length list₂ ≡ length list → Keepable f n quick starts′ list₂
-      keepable e = record {
-        accepted = p .accepted;
-        is-size = p .is-size;
-        some = omega arith;
-        short = omega (arith, t .found there .high, p .capped);
-        wide = as-wide;
-        room = omega (arith, p .room);
-      }
 
       -- what keeping it comes to, where that ends right
       kept : {smallest : Bool} {list₂ list′ rows′ : List ℕ} {r : Planned} → list₂ ≡ list → Keeps f n resource recurrence quick smallest starts′ list₂ r list′
@@ -187,8 +180,8 @@ module _ {f : List ℕ} {n resource recurrence cap horizon budget : ℕ} {list r
         }
 
         -- a quick list is kept
-        pub room-left : (quick ≡ 0 → ⊥) → Keepable f n quick starts′ list₂
-        room-left z = keepable z (ap length same-list)
+        pub room-left : Keepable f n starts′ list₂
+        room-left = keepable (ap length same-list)
 
         pub keeps-quick : (z : quick ≡ 0 → ⊥) {list′ : List ℕ} {r : Planned} → Keeps f n resource recurrence quick (eqb m 10) starts′ list₂ r list′ → PlanMade f resource recurrence cap horizon budget list rows r list′ rows₂
         keeps-quick z k = kept z same-list k (below-ended l q b some quick (take n starts′) (quick-at z) _ (ends-below z) (above z) (record { number = m; detail = d }) _ (ap (answerOf l list₂) e)) cleared-rows

@@ -54,11 +54,9 @@ pub record PlanMade (f : List ℕ) (resource recurrence cap horizon budget : ℕ
   pub rows-are : rows′ ≡ replicate 4096 0 ++ drop 4096 rows
 
 -- a list of n starts for an accepted file can be kept
-pub record Keepable (f : List ℕ) (n ii : ℕ) (starts list : List ℕ) : Type 0 where
+pub record Keepable (f : List ℕ) (n : ℕ) (starts list : List ℕ) : Type 0 where
   pub accepted : Accepted f
   pub is-size : n ≡ size (loopOf f)
-  pub some : 1 ≤ ii
-  pub short : ii ≤ 4096
   pub wide : length starts ≡ 64
   pub room : n ≤ length list
 

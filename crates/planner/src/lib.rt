@@ -156,7 +156,7 @@ fn keep(
     starts: &[u16; 64],
     list: &mut [u16],
 ) -> Planned
-    requires { ⌜ Keepable (now file) n interval (now starts) (now list) ⌝ }
+    requires { ⌜ Keepable (now file) n (now starts) (now list) ⌝ }
     ensures { λ r. ⌜ Keeps (now (file .entry)) n resource recurrence interval smallest (now (starts .entry)) (now (list .entry)) r (now (list .exit)) ⌝ }
 {
     write_list(list, starts, n);

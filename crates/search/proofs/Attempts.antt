@@ -6,16 +6,15 @@ use native.Mathlib.Omega.{arith}
 use lib.ListN.{length, take, drop, replicate}
 use lib.Seq.{getD-take, length-take-le, take-at}
 use Rattle.model.specs.Lists.{upFrom}
-use Rattle.model.specs.Integers.{ceilDiv}
 use Rattle.model.specs.Refusals.{answered}
-use Rattle.model.specs.Loop.{Loop, size, opAt}
+use Rattle.model.specs.Loop.{Loop, size}
 use Rattle.model.specs.File.{loopOf, Accepted}
 use Rattle.model.specs.Bounds.{Lower}
-use Rattle.model.specs.Search.{startOf, lastEnd, stageCount, Request, found, intervals, sweep}
+use Rattle.model.specs.Search.{stage, occupiedBy, lastCycle, lastOccupied, stageCount, Request, found, intervals, sweep}
 use Rattle.model.proofs.File.{accepted-ok}
 use Rattle.model.proofs.Sums.{max-same}
 use Rattle.reservation.proofs.Stores.{cleared, cleared-length}
-use Rattle.search.specs.Sweep.{Clear, outcomeOf, SweptIs, Ranged, keptOf}
+use Rattle.search.specs.Sweep.{Clear, outcomeOf, SweptIs, Within, keptOf}
 use Rattle.search.specs.Answer.{Passed, Attempted}
 use Rattle.search.specs.declared.sweep.Swept.{Swept}
 use Rattle.search.specs.declared.sweep.Swept.the-variants as swept
@@ -25,11 +24,11 @@ use Rattle.search.specs.declared.Searched.the-variants as searched
 
 -- it depends on the starts of the loop's operations alone
 pub stages-take : (l : Loop) (ii n : ℕ) (xs : List ℕ) → n ≡ size l → stageCount l ii (take n xs) ≡ stageCount l ii xs
-unfolding stageCount lastEnd
+unfolding stageCount lastOccupied
 stages-take l ii n xs e =
-    ap (λ (m : ℕ). ceilDiv (m + 1) ii)
-    (max-same (λ o. startOf (take n xs) o + opAt l o .latency) (λ o. startOf xs o + opAt l o .latency) 0 (size l)
-    (λ o i j. ap (λ (s : ℕ). s + opAt l o .latency) (getD-take n xs o 0 (omega arith))))
+    ap (λ (m : ℕ). stage ii m + 1)
+    (max-same (lastCycle l (take n xs)) (lastCycle l xs) 0 (size l)
+    (λ o i j. ap (λ (s : ℕ). s + occupiedBy l o - 1) (getD-take n xs o 0 (omega arith))))
 
 -- ---- before the sweep
 
@@ -70,7 +69,7 @@ list-room {f} {n = n} starts r count p wide e =
 -- what is known once the list is written: the answer r, the starts, the list and the rows
 pub record Come (f : List ℕ) (n resource recurrence least cap horizon budget : ℕ) (list rows starts list′ rows′ : List ℕ) (r : Swept) : Type 0 where
   pub swept-is : SweptIs f n least cap horizon budget starts r
-  pub ranged : Ranged least cap budget r
+  pub within : Within budget r
   pub least-is : least ≡ max resource recurrence
   pub wide : length starts ≡ 64
   pub list-is : list′ ≡ take (keptOf r n) starts ++ drop (keptOf r n) list
@@ -96,15 +95,13 @@ module _ {f list rows starts list′ rows′ : List ℕ} {n resource recurrence 
   written : (s : Swept) → r ≡ s → list′ ≡ take (keptOf s n) starts ++ drop (keptOf s n) list
   written s e = come .list-is ∙ ap (λ (t : Swept). take (keptOf t n) starts ++ drop (keptOf t n) list) e
 
-  -- a list is found at an interval in range, with what is left
-  pub found-ranged : (ii left : ℕ) → r ≡ swept.Found ii left → (1 ≤ ii) × (ii ≤ 4096) × (left ≤ budget)
-  found-ranged ii left e =
-      let w : Ranged least cap budget (swept.Found ii left) = rw e at (come .ranged) in
-      (omega (arith, w .0, come .least-is, p .positive), omega (arith, w .1, p .capped), w .2)
+  -- a list is found, with what is left
+  pub found-within : (ii left : ℕ) → r ≡ swept.Found ii left → left ≤ budget
+  found-within ii left e = rw e at (come .within)
 
   -- there is none, with what is left
-  pub none-ranged : (left : ℕ) → r ≡ swept.Nothing left → left ≤ budget
-  none-ranged left e = rw e at (come .ranged)
+  pub none-within : (left : ℕ) → r ≡ swept.Nothing left → left ≤ budget
+  none-within left e = rw e at (come .within)
 
   -- a list is found, and written
   pub finds : (ii left stages : ℕ) → r ≡ swept.Found ii left → stages ≡ stageCount (loopOf f) ii starts

@@ -19,7 +19,7 @@ use Rattle.model.proofs.Table.{table-nil, cells-nothing}
 use Rattle.model.proofs.Counts.{legal-nil}
 use Rattle.descent.specs.Tree.{resOf, run}
 use Rattle.descent.specs.Descent.{tell, Wrote, Ready, Done, below}
-use Rattle.search.specs.Sweep.{Clear, outcomeOf, SweptIs, Ranged}
+use Rattle.search.specs.Sweep.{Clear, outcomeOf, SweptIs, Within}
 use Rattle.descent.specs.declared.Found.{Found}
 use Rattle.descent.specs.declared.Found.the-variants.{All, Spent, Nothing}
 use Rattle.search.specs.declared.sweep.Swept.the-variants as swept
@@ -168,14 +168,14 @@ module _ {f starts₀ rows₀ : List ℕ} {n least cap h budget : ℕ} (clear : 
       comes-to b = ap (sweep (loopOf f) (asking cap h budget) b (budget - left)) (sym (up-cons ii cap m)) ∙ pass .to-come b
 
       module _ {later : List ℕ} {r : Found} (done : Done (below f starts 0 n ii h left) n 0 (take 0 starts) starts later r) where
-        -- a list is found, at one of the intervals, with no more left than there was
-        pub finds : (k : ℕ) → r ≡ All k → SweptIs f n least cap h budget later (swept.Found ii k) × Ranged least cap budget (swept.Found ii k)
+        -- a list is found, with no more left than there was
+        pub finds : (k : ℕ) → r ≡ All k → SweptIs f n least cap h budget later (swept.Found ii k) × Within budget (swept.Found ii k)
         finds k e =
             let t : tell (resOf left has taken) ≡ All k = ap tell (sym is-res) ∙ sym (done .says) ∙ e in
             let w : Wrote n [] later (resOf left has taken) = rw is-res at (done .list) in
             let x : (b : Lower) → (k ≤ left) × (step (loopOf f) (asking cap h budget) b ii left taken (onward b) (pass .paid) has ≡ outcomeOf (loopOf f) (asking cap h budget) b n later (swept.Found ii k)) =
             λ b. step-all (loopOf f) (asking cap h budget) b ii left taken (onward b) (pass .paid) has (decLt left taken) n k later t w in
-            (λ b. sym (x b .1) ∙ comes-to b, (pass .from-least, m, omega (arith, pass .paid, x (record { resource = 0; recurrence = 0 }) .0)))
+            (λ b. sym (x b .1) ∙ comes-to b, omega (arith, pass .paid, x (record { resource = 0; recurrence = 0 }) .0))
 
         -- the budget is spent
         pub stops : r ≡ Spent → SweptIs f n least cap h budget later (swept.Spent ii)

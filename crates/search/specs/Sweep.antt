@@ -35,11 +35,11 @@ SweptIs f n least cap h budget starts r =
     let q : Request = record { cap = cap; horizon = h; budget = budget } in
     (b : Lower) → outcomeOf (loopOf f) q b n starts r ≡ sweep (loopOf f) q b 0 (upFrom least (suc cap - least))
 
--- an interval that has a list is one of those asked for, and no more is left than there was
-abbrev pub Ranged : (least cap budget : ℕ) → Swept → Type 0
-Ranged least cap budget (swept.Found ii left) = (least ≤ ii) × (ii ≤ cap) × (left ≤ budget)
-Ranged least cap budget (swept.Nothing left) = left ≤ budget
-Ranged least cap budget (swept.Spent ii) = Unit {0}
+-- no more of the budget is left than there was
+abbrev pub Within : (budget : ℕ) → Swept → Type 0
+Within budget (swept.Found ii left) = left ≤ budget
+Within budget (swept.Nothing left) = left ≤ budget
+Within budget (swept.Spent ii) = Unit {0}
 
 -- how many starts the caller's list gets: n where a list is found, else none
 abbrev pub keptOf : Swept → ℕ → ℕ

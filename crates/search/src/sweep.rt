@@ -2,7 +2,7 @@
 use descent::Found;
 use descent::choose;
 ghost use mathlib.Core.Path.{_≡_};
-ghost use Rattle.search.specs.Sweep.{Clear, SweptIs, Ranged};
+ghost use Rattle.search.specs.Sweep.{Clear, SweptIs, Within};
 
 // What the sweep over the intervals comes to: the interval at which a list is found, and what is left of the budget; none, and what is left; the interval at which the budget is spent.
 pub enum Swept {
@@ -25,7 +25,7 @@ pub fn sweep(
     requires { ⌜ Clear (now file) (now starts) (now rows) n least cap horizon ⌝ }
     ensures done { λ r. ⌜ SweptIs (now (file .entry)) n least cap horizon budget (now (starts .exit)) r ⌝ }
     ensures same { λ r. ⌜ now (rows .exit) ≡ now (rows .entry) ⌝ }
-    ensures ranged { λ r. ⌜ Ranged least cap budget r ⌝ }
+    ensures within { λ r. ⌜ Within budget r ⌝ }
 {
     let mut left = budget;
     let mut ii = least;

@@ -4,6 +4,7 @@ use crate::drawing::Request;
 use crate::lower::recurrence;
 use crate::lower::resource;
 use std::num::wrapping_add_usize;
+use std::num::wrapping_sub_usize;
 use trial::drawn::Drawn;
 use trial::drawn::NOWHERE;
 use trial::drawn::larger;
@@ -45,18 +46,20 @@ fn probes(d: Drawn, interval: u16, first: usize) -> usize {
     sum
 }
 
-// The number of stages: one more than that of the largest start + latency.
+// The number of stages that hold all occupied cycles: the first cycle after them, divided by the interval and rounded up. An operation occupies as many cycles as its latency says, at least one.
 fn stages(d: Drawn, starts: &[u16; 6], interval: u16) -> usize {
-    let mut most = 0;
+    let mut free = 0;
     let mut op = 0;
     while op < 6 {
         let s = start_of(starts, op);
         if s < NOWHERE {
-            most = larger(most, wrapping_add_usize(s as usize, latency(d, op)));
+            let cycles = larger(latency(d, op), 1);
+            free = larger(free, wrapping_add_usize(s as usize, cycles));
         }
         op += 1;
     }
-    wrapping_add_usize(most / larger(interval as usize, 1), 1)
+    let ii = larger(interval as usize, 1);
+    wrapping_add_usize(free, wrapping_sub_usize(ii, 1)) / ii
 }
 
 // The answer of these numbers, with no starts.

@@ -3,9 +3,10 @@
 use loop_access::latency;
 use loop_access::op_count;
 ghost use mathlib.Core.Path.{_≡_};
-ghost use Prim.Native.Nat.{_≤_, _<_};
+ghost use Prim.Native.Nat.{_<_};
+ghost use Rattle.model.specs.Loop.{size};
 ghost use Rattle.model.specs.File.{loopOf, Accepted};
-ghost use Rattle.model.specs.Search.{startOf, orderOf, lastEnd, stageCount};
+ghost use Rattle.model.specs.Search.{startOf, orderOf, lastCycle, lastOccupied, stageCount};
 ghost use Rattle.model.specs.Search as model;
 ghost use Rattle.stages.specs.Order.{comesBefore};
 
@@ -70,28 +71,42 @@ pub fn order(interval: usize, starts: &[u16], op: usize) -> usize
     n
 }
 
-// The largest start + latency. Internal: asks for an accepted file.
-fn last_end(file: &[u8], starts: &[u16]) -> usize
+// The last cycle that an operation occupies: as many from its start on as its latency says, at least one. Internal: asks for an accepted file and one of its
+// operations.
+fn last_cycle(file: &[u8], starts: &[u16], op: usize) -> usize
+    requires { ⌜ Accepted (now file) × (op < size (loopOf (now file))) ⌝ }
+    ensures { λ r. ⌜ (r ≡ lastCycle (loopOf (now (file .entry))) (now (starts .entry)) op) × (r < 65600) ⌝ }
+{
+    let first = start_of(starts, op);
+    let cycles = latency(file, op);
+    if cycles == 0 {
+        return first;
+    }
+    first + (cycles - 1)
+}
+
+// The last cycle that any operation occupies. Internal: asks for an accepted file.
+fn last_occupied(file: &[u8], starts: &[u16]) -> usize
     requires { ⌜ Accepted (now file) ⌝ }
-    ensures { λ r. ⌜ (r ≡ lastEnd (loopOf (now (file .entry))) (now (starts .entry))) × (r ≤ 65599) ⌝ }
+    ensures { λ r. ⌜ (r ≡ lastOccupied (loopOf (now (file .entry))) (now (starts .entry))) × (r < 65600) ⌝ }
 {
     let n = op_count(file);
     let mut most = 0;
     let mut o = 0;
     while o < n {
-        let end = start_of(starts, o) + latency(file, o);
-        if most < end {
-            most = end;
+        let last = last_cycle(file, starts, o);
+        if most < last {
+            most = last;
         }
         o = o + 1;
     }
     most
 }
 
-// The stage count. Internal: asks for an accepted file and an interval in range.
+// The stage count. Internal: asks for an accepted file.
 pub fn stage_count(file: &[u8], interval: usize, starts: &[u16]) -> usize
-    requires { ⌜ Accepted (now file) × (1 ≤ interval) × (interval ≤ 4096) ⌝ }
+    requires { ⌜ Accepted (now file) ⌝ }
     ensures { λ r. ⌜ r ≡ stageCount (loopOf (now (file .entry))) interval (now (starts .entry)) ⌝ }
 {
-    (last_end(file, starts) + 1 + (interval - 1)) / interval
+    stage(interval, last_occupied(file, starts)) + 1
 }

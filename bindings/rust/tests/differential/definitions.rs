@@ -99,6 +99,19 @@ pub fn place(
     })
 }
 
+/// The number of stages: one more than the largest stage of an occupied cycle, cycle by cycle.
+pub fn stages(described: &Loop, interval: usize, starts: &[u16]) -> usize {
+    let mut most = 0;
+    for (op, &start) in described.operations.iter().zip(starts) {
+        // The first cycle is occupied also where the latency is 0.
+        most = most.max(usize::from(start) / interval + 1);
+        for k in 0..usize::from(op.latency) {
+            most = most.max((usize::from(start) + k) / interval + 1);
+        }
+    }
+    most
+}
+
 /// Up to so many lists of starts are gone through.
 const FEW: u64 = 3000;
 

@@ -124,6 +124,27 @@ fn count(tally: &mut Tally, plain: &Result<Schedule, NotFound>) {
     }
 }
 
+/// Compares the number of stages with the definition, and counts the schedules in which start + latency alone would give
+/// another one: one stage more where that is the cycle after the last stage, one fewer where it is not above the stages before.
+fn compare_stages(file: &[u8], schedule: &Schedule, tally: &mut Tally) {
+    let code = read(file).expect("a file that has a schedule is a loop file");
+    let (interval, starts) = (schedule.interval, &schedule.starts);
+    let stages = definitions::stages(&code, interval, starts);
+    assert_eq!(
+        schedule.stages, stages,
+        "{starts:?} at {interval}, {code:?}"
+    );
+    let ends = code.operations.iter().zip(starts);
+    let ends = ends.map(|(op, &start)| usize::from(start) + usize::from(op.latency));
+    let end = ends.max().expect("a loop has an operation");
+    if end == interval * stages {
+        tally.count("last stage full");
+    }
+    if end <= interval * (stages - 1) {
+        tally.count("last stage by latency 0");
+    }
+}
+
 /// Compares what the plain search came to with the definition, where it was made and the loop has few lists of starts.
 fn compare_defined(
     file: &[u8],
@@ -170,6 +191,9 @@ fn compare(
 
     let plain = plain.map(|found| schedule(file, found, left.starts.part()));
     count(tally, &plain);
+    if let Ok(schedule) = &plain {
+        compare_stages(file, schedule, tally);
+    }
     compare_defined(file, request, &plain, tally);
     // The simple function lends enough always.
     if !matches!(plain, Err(none) if none.refusal.number == 20) {
@@ -197,6 +221,8 @@ fn searches() {
     tally.refusals_at_least(100, &[1, 2, 3, 4, 5, 6]);
     tally.refusals_at_least(500, &[7, 8, 10, 11, 20]);
     tally.at_least(5000, "compared with the definition");
+    tally.at_least(500, "last stage full");
+    tally.at_least(100, "last stage by latency 0");
 }
 
 /// Long searches of loops of up to 64 operations, and of small ones with the largest budget.

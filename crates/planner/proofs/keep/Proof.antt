@@ -15,7 +15,7 @@ write-list-requires c κs =
     (p .room, omega (arith, p .is-size, p .wide, accepted-ok (c .before .before .before .before .args .file .now) (p .accepted) .few))
 
 stage-count-requires : tie.Need-stage-count-requires
-stage-count-requires c κs = let p = c .before .before .before .before .before .before .before .before .pre in (p .accepted, p .some, p .short)
+stage-count-requires c κs = c .before .before .before .before .before .before .before .before .pre .accepted
 
 same-length : tie.Need-same-length
 same-length c = omega arith

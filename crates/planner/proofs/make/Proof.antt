@@ -38,7 +38,7 @@ keep-requires : tie.Need-keep-requires
 keep-requires c κs =
     let h = c .before .before .before .before .before .before in
     let t = h .before .before .before in
-    keepable (start t .pre) (bounding t .larger .ensures) refl (t .place-all .ensures) (bound-there h) refl
+    keepable (start t .pre) (bounding t .larger .ensures) refl (t .place-all .ensures) refl
 
 same-length : tie.Need-same-length
 same-length c = omega arith
@@ -112,7 +112,7 @@ keep-requires-2 c κs =
     let m = e .before in
     let s = ended-from m in
     let t = tried s in
-    room-left (start t .pre) (bounding t .larger .ensures) refl (t .place-all .ensures) (not-least s) (searched-is s) (m .before .searched2 .given .1) (e .if2 .left)
+    room-left (start t .pre) (bounding t .larger .ensures) refl (t .place-all .ensures) (not-least s) (searched-is s) (m .before .searched2 .given .1)
 
 enum-known-searched-3 : tie.Need-enum-known-searched-3
 enum-known-searched-3 c = omega arith

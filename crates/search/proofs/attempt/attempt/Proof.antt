@@ -2,7 +2,7 @@
 use mathlib.Core.Path.{refl, _∙_}
 use borrow.Author.Needs.{needs}
 use native.Mathlib.Omega.{arith}
-use Rattle.search.proofs.Attempts.{clears, list-room, Come, found-ranged, none-ranged, finds, ends, stops}
+use Rattle.search.proofs.Attempts.{clears, list-room, Come, found-within, none-within, finds, ends, stops}
 use Rattle.search.proofs.attempt.attempt.Statement.{statement}
 use Rattle.search.proofs.attempt.attempt.Tie as tie
 
@@ -56,7 +56,7 @@ come c =
     let s = sweeping (c .before) in
     record {
       swept-is = s .sweep .ensures .0;
-      ranged = s .sweep .ensures .1 .1;
+      within = s .sweep .ensures .1 .1;
       least-is = s .before .larger .ensures;
       wide = omega arith;
       list-is = rw (c .before .kept .ensures) at (c .write-list .ensures);
@@ -80,17 +80,13 @@ abbrev spent-at : tie.After-swept3 → tie.After-write-list
 spent-at c = c .before .before .before .before
 
 stage-count-requires : tie.Need-stage-count-requires
-stage-count-requires c κs =
-    let m = c .before .before in
-    let w = found-at m in
-    let g = found-ranged (entry w .pre) (come w) _ _ (m .swept .given .1) in
-    (entry w .pre .accepted, g .0, g .1)
+stage-count-requires c κs = entry (found-at (c .before .before)) .pre .accepted
 
 sub-t32 : tie.Need-sub-t32
 sub-t32 c =
     let m = c .before .before .before in
     let w = found-at m in
-    omega (arith, found-ranged (entry w .pre) (come w) _ _ (m .swept .given .1) .2)
+    found-within (entry w .pre) (come w) _ _ (m .swept .given .1)
 
 enum-known-swept-2 : tie.Need-enum-known-swept-2
 enum-known-swept-2 c = omega arith
@@ -98,7 +94,7 @@ enum-known-swept-2 c = omega arith
 sub-t34 : tie.Need-sub-t34
 sub-t34 c =
     let w = none-at (c .before) in
-    none-ranged (entry w .pre) (come w) _ (c .before .swept2 .given .1)
+    none-within (entry w .pre) (come w) _ (c .before .swept2 .given .1)
 
 enum-known-swept-3 : tie.Need-enum-known-swept-3
 enum-known-swept-3 c = omega arith
