@@ -39,8 +39,7 @@ pub struct Found {
     pub interval: usize,
     /// The two lower bounds.
     pub bounds: Bounds,
-    /// The number of stages: one more than the stage of the last cycle that an operation occupies. It occupies as many cycles
-    /// from its start on as its latency says, at least one.
+    /// The number of stages, as that of a [`Schedule`].
     pub stages: usize,
     /// How many probes were made.
     pub probes: usize,

@@ -124,8 +124,8 @@ fn count(tally: &mut Tally, plain: &Result<Schedule, NotFound>) {
     }
 }
 
-/// Compares the number of stages with the definition, and counts the schedules in which start + latency alone would give
-/// another one: one stage more where that is the cycle after the last stage, one fewer where it is not above the stages before.
+/// Compares the number of stages with the definition. Two wrong rules are counted where they would say another number: the
+/// stage of the largest start + latency, which is one too many, and that of the cycle before, with latency 0 taken as 0.
 fn compare_stages(file: &[u8], schedule: &Schedule, tally: &mut Tally) {
     let code = read(file).expect("a file that has a schedule is a loop file");
     let (interval, starts) = (schedule.interval, &schedule.starts);
@@ -138,10 +138,10 @@ fn compare_stages(file: &[u8], schedule: &Schedule, tally: &mut Tally) {
     let ends = ends.map(|(op, &start)| usize::from(start) + usize::from(op.latency));
     let end = ends.max().expect("a loop has an operation");
     if end == interval * stages {
-        tally.count("last stage full");
+        tally.count("cycle after the last stage");
     }
     if end <= interval * (stages - 1) {
-        tally.count("last stage by latency 0");
+        tally.count("last stage by a latency of 0");
     }
 }
 
@@ -221,8 +221,8 @@ fn searches() {
     tally.refusals_at_least(100, &[1, 2, 3, 4, 5, 6]);
     tally.refusals_at_least(500, &[7, 8, 10, 11, 20]);
     tally.at_least(5000, "compared with the definition");
-    tally.at_least(500, "last stage full");
-    tally.at_least(100, "last stage by latency 0");
+    tally.at_least(500, "cycle after the last stage");
+    tally.at_least(100, "last stage by a latency of 0");
 }
 
 /// Long searches of loops of up to 64 operations, and of small ones with the largest budget.
