@@ -33,12 +33,12 @@ last-stage l ii xs some =
       is-last = refl;
     }
 
--- an accepted file has an operation, so this is so of each schedule that is found for one
-pub file-stages : (f : List ℕ) → Accepted f → (ii : ℕ) (xs : List ℕ) → LastStage (loopOf f) ii xs (stageCount (loopOf f) ii xs)
-file-stages f a ii xs = last-stage (loopOf f) ii xs (accepted-ok f a .some)
-
 -- no other number is that
 pub stages-only : (l : Loop) (ii : ℕ) (xs : List ℕ) (n : ℕ) → LastStage l ii xs n → n ≡ stageCount l ii xs
 stages-only l ii xs n s =
     let own = last-stage l ii xs (omega (arith, s .occupies .0)) in
     omega (arith, own .within (s .op) (s .at) (s .occupies), own .is-last, s .within (own .op) (own .at) (own .occupies), s .is-last)
+
+-- an accepted file has an operation, so the last stage of each schedule that is found for one is not empty
+pub file-stages : (f : List ℕ) → Accepted f → (ii : ℕ) (xs : List ℕ) → LastStage (loopOf f) ii xs (stageCount (loopOf f) ii xs)
+file-stages f a ii xs = last-stage (loopOf f) ii xs (accepted-ok f a .some)
