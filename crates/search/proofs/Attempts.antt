@@ -95,13 +95,9 @@ module _ {f list rows starts list′ rows′ : List ℕ} {n resource recurrence 
   written : (s : Swept) → r ≡ s → list′ ≡ take (keptOf s n) starts ++ drop (keptOf s n) list
   written s e = come .list-is ∙ ap (λ (t : Swept). take (keptOf t n) starts ++ drop (keptOf t n) list) e
 
-  -- a list is found, with what is left
-  pub found-within : (ii left : ℕ) → r ≡ swept.Found ii left → left ≤ budget
-  found-within ii left e = rw e at (come .within)
-
-  -- there is none, with what is left
-  pub none-within : (left : ℕ) → r ≡ swept.Nothing left → left ≤ budget
-  none-within left e = rw e at (come .within)
+  -- no more is left than there was
+  pub left-within : (s : Swept) → r ≡ s → Within budget s
+  left-within s e = rw e at (come .within)
 
   -- a list is found, and written
   pub finds : (ii left stages : ℕ) → r ≡ swept.Found ii left → stages ≡ stageCount (loopOf f) ii starts

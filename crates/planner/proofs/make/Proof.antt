@@ -36,8 +36,7 @@ bounding c = c .before .before .before
 
 keep-requires : tie.Need-keep-requires
 keep-requires c κs =
-    let h = c .before .before .before .before .before .before in
-    let t = h .before .before .before in
+    let t = c .before .before .before .before .before .before .before .before .before in
     keepable (start t .pre) (bounding t .larger .ensures) refl (t .place-all .ensures) refl
 
 same-length : tie.Need-same-length
@@ -108,8 +107,7 @@ returns-2 c =
 
 keep-requires-2 : tie.Need-keep-requires-2
 keep-requires-2 c κs =
-    let e = c .before .before in
-    let m = e .before in
+    let m = c .before .before .before in
     let s = ended-from m in
     let t = tried s in
     room-left (start t .pre) (bounding t .larger .ensures) refl (t .place-all .ensures) (not-least s) (searched-is s) (m .before .searched2 .given .1)

@@ -2,7 +2,7 @@
 use mathlib.Core.Path.{refl, _∙_}
 use borrow.Author.Needs.{needs}
 use native.Mathlib.Omega.{arith}
-use Rattle.search.proofs.Attempts.{clears, list-room, Come, found-within, none-within, finds, ends, stops}
+use Rattle.search.proofs.Attempts.{clears, list-room, Come, left-within, finds, ends, stops}
 use Rattle.search.proofs.attempt.attempt.Statement.{statement}
 use Rattle.search.proofs.attempt.attempt.Tie as tie
 
@@ -86,7 +86,7 @@ sub-t32 : tie.Need-sub-t32
 sub-t32 c =
     let m = c .before .before .before in
     let w = found-at m in
-    found-within (entry w .pre) (come w) _ _ (m .swept .given .1)
+    left-within (entry w .pre) (come w) _ (m .swept .given .1)
 
 enum-known-swept-2 : tie.Need-enum-known-swept-2
 enum-known-swept-2 c = omega arith
@@ -94,7 +94,7 @@ enum-known-swept-2 c = omega arith
 sub-t34 : tie.Need-sub-t34
 sub-t34 c =
     let w = none-at (c .before) in
-    none-within (entry w .pre) (come w) _ (c .before .swept2 .given .1)
+    left-within (entry w .pre) (come w) _ (c .before .swept2 .given .1)
 
 enum-known-swept-3 : tie.Need-enum-known-swept-3
 enum-known-swept-3 c = omega arith
