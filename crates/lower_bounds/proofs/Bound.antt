@@ -12,11 +12,10 @@ use lib.Signed.{_<ℤ_}
 use Rattle.model.specs.Integers.{plus}
 use Rattle.model.specs.Loop.{Loop, size, depAt, LoopOk}
 use Rattle.model.specs.Bounds.{Feasible, RecurrenceBound, Goes, Closed, delayOf, distanceOf, Heavy, Stuck}
-use Rattle.model.specs.Integers.{ceilDiv}
 use Rattle.model.proofs.Signed.{Is, is-pos, of-lt, lt-of, plus-le}
 use Rattle.model.proofs.Bounds.{Inside, light, refutes, stuck-never, plusOf, minusOf, delay-parts}
 use Rattle.lower_bounds.specs.Walks.{Refuted}
-use Rattle.lower_bounds.specs.Quotient.{quotientUp}
+use Rattle.lower_bounds.specs.Quotient.{ceilDiv, quotientUp}
 use Rattle.lower_bounds.proofs.Trail.{decide}
 
 -- a quotient, from what it multiplies out to

@@ -1,12 +1,8 @@
 -- Numbers, beside the library. Assumes nothing.
 use mathlib.Core.Bool.{cond}
-use Prim.Native.Nat.{ℕ, suc, _+_, _-_, _/_}
+use Prim.Native.Nat.{ℕ, suc}
 use lib.IntN.{ℤ, pos, negsuc}
 use lib.Signed.{ltZ}
-
--- a divided by b, rounded up
-abbrev pub ceilDiv : ℕ → ℕ → ℕ
-ceilDiv a b = (a + (b - 1)) / b
 
 -- how far a signed number is above 0; 0 where it is not
 abbrev pub plus : ℤ → ℕ

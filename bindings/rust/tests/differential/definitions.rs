@@ -101,15 +101,14 @@ pub fn place(
 
 /// The number of stages: one more than the largest stage of an occupied cycle, cycle by cycle.
 pub fn stages(described: &Loop, interval: usize, starts: &[u16]) -> usize {
-    let mut most = 0;
+    let mut stages = 0;
     for (op, &start) in described.operations.iter().zip(starts) {
-        // The first cycle is occupied also where the latency is 0.
-        most = most.max(usize::from(start) / interval + 1);
-        for k in 0..usize::from(op.latency) {
-            most = most.max((usize::from(start) + k) / interval + 1);
+        // A latency of 0 counts as 1.
+        for k in 0..usize::from(op.latency.max(1)) {
+            stages = stages.max((usize::from(start) + k) / interval + 1);
         }
     }
-    most
+    stages
 }
 
 /// Up to so many lists of starts are gone through.
