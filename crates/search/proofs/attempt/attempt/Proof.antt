@@ -86,7 +86,7 @@ sub-t32 : tie.Need-sub-t32
 sub-t32 c =
     let m = c .before .before .before in
     let w = found-at m in
-    left-within (entry w .pre) (come w) _ (m .swept .given .1)
+    omega (arith, left-within (entry w .pre) (come w) _ (m .swept .given .1))
 
 enum-known-swept-2 : tie.Need-enum-known-swept-2
 enum-known-swept-2 c = omega arith
