@@ -9,6 +9,8 @@ use lib.Dec.{lit≤}
 use Rattle.model.specs.Lists.{upFrom, pairs, anyOf, first, countIf, sumOf, maxOf}
 use Rattle.model.specs.Refusals.{Answer, answered, refused, firstRefusal}
 use Rattle.model.specs.File.{readFile, signedByte, firstUse, loopOf, lengthChecks, headChecks, standsAt, entryChecks, contentsChecks, opChecks, useChecks, opUseChecks, usesChecks, depChecks, fileChecks, Accepted}
+use Rattle.model.specs.Loop.{allUses}
+use Rattle.model.specs.Writer.{fieldsOf, fileBy, firstGiven, loopFrom, opUsesGivenChecks, usesGivenChecks, givenChecks, writeChecks, writeFile}
 use Rattle.model.specs.Legality.{holds, meets, firstBreach, cellsIn, footprint, share, conflict, selfConflict, apart, legalAt}
 use Rattle.model.specs.Table.{number, rowNumber, tableOf, cellsOf}
 use Rattle.model.specs.Bounds.{totalOn, resourceBound, Feasible, Closed, delayOf, distanceOf, Heavy, LowerIs, cyclic, within, BoundsIs, by-loop}
@@ -16,14 +18,14 @@ use Rattle.model.specs.Search.{words, answer, probes, stageCount, lastOc
 use Rattle.model.specs.Session.{Setup, Starts, Call, Reply, start, stateTable, openChecks, openFile, inTheWay, without, maskOf, step, after, replies}
 use Rattle.model.specs.Counts.{firstTaken}
 use Rattle.model.specs.Verifier.{proposalChecks, proposedChecks, firstBroken, firstPair, pairPlace, verdict, verifyFile}
-use Rattle.model.specs.Cases.{searched, CaseHolds, AllHold, no-more, _also_, Called, foundAt, fileA, loopA, fileB2, fileC, ring, idle, starred}
+use Rattle.model.specs.Cases.{searched, CaseHolds, AllHold, no-more, _also_, Called, foundAt, fileA, loopA, fileB2, fileC, ring, idle, starred, writing}
 use Rattle.model.proofs.Signed.{is-pos, of-lt}
 use Rattle.model.proofs.File.{accepted-ok}
 use Rattle.model.proofs.Bounds.{refutes}
 
 -- to unfold this is to unfold every definition that the cases compute with
 computing : Unit {0}
-unfolding readFile fileChecks firstRefusal lengthChecks headChecks standsAt entryChecks contentsChecks opChecks useChecks opUseChecks usesChecks depChecks flatMap upFrom firstUse loopOf signedByte meets anyOf holds totalOn resourceBound sumOf maxOf delayOf distanceOf searchChecks requestChecks roomChecks sweep words answer probes first countIf pairs cellsIn footprint firstTaken share conflict selfConflict apart legalAt stageCount lastOccupied verifyFile proposalChecks proposedChecks firstBroken firstPair pairPlace verdict openFile openChecks firstBreach inTheWay without maskOf step after replies orderOf listing number rowNumber tableOf cellsOf
+unfolding readFile fileChecks firstRefusal lengthChecks headChecks standsAt entryChecks contentsChecks opChecks useChecks opUseChecks usesChecks depChecks flatMap upFrom firstUse loopOf signedByte meets anyOf holds totalOn resourceBound sumOf maxOf delayOf distanceOf searchChecks requestChecks roomChecks sweep words answer probes first countIf pairs cellsIn footprint firstTaken share conflict selfConflict apart legalAt stageCount lastOccupied verifyFile proposalChecks proposedChecks firstBroken firstPair pairPlace verdict openFile openChecks firstBreach inTheWay without maskOf step after replies orderOf listing number rowNumber tableOf cellsOf allUses fieldsOf fileBy firstGiven loopFrom opUsesGivenChecks usesGivenChecks givenChecks writeChecks writeFile
 computing = tt
 
 -- ---- bounds
@@ -144,4 +146,13 @@ starred-hold =
     also refl also refl
     also calls refl refl refl also calls refl refl refl
     also calls refl refl refl also calls refl refl refl
+    also no-more
+
+-- and every case of the writer
+pub writing-hold : AllHold writing
+unfolding computing
+writing-hold =
+    refl also refl
+    also refl also refl also refl also refl also refl also refl also refl
+    also refl also refl also refl also refl also refl
     also no-more

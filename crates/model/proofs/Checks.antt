@@ -1,17 +1,18 @@
--- Laws of tables of checks: the first refusal of tables one after the other, and of a table over a row of numbers; numbers out of range. Assumes nothing.
+-- Laws of tables of checks: the first refusal of tables one after the other, and of a table over a row of numbers; what makes a table passed; numbers out
+-- of range. Assumes nothing.
 use mathlib.Core.Path.{_≡_, refl, sym, ap, _∙_}
-use mathlib.Core.Bool.{Bool, true, false, cond}
-use mathlib.Core.List.{List, [], _∷_, _++_, flatMap}
+use mathlib.Core.Bool.{Bool, true, false, not, cond}
+use mathlib.Core.List.{List, [], _∷_, _++_, map, flatMap}
 use mathlib.Core.Logic.{_⊎_, inl, inr}
 use mathlib.Core.Option.{Option, none, some}
 use Prim.Native.Nat.{ℕ, zero, suc, _+_, _-_, _≤_, _<_}
 use native.Mathlib.Nat.{eq-or-lt-of-le}
 use native.Mathlib.Omega.{arith}
-use borrow.Author.Tests.{ltb-false, lt-ltb, le-ltb}
-use lib.Dec.{ltb}
+use borrow.Author.Tests.{ltb-false, lt-ltb, le-ltb, lt-leb, eq-eqb}
+use lib.Dec.{eqb, ltb}
 use Rattle.model.specs.Lists.{upFrom}
 use Rattle.model.specs.Refusals.{Refusal, Check, ifFound, outside, firstRefusal}
-use Rattle.model.proofs.Lists.{or-false-left, or-false-right, upFrom-split, flatMap-append, flat-next}
+use Rattle.model.proofs.Lists.{or-false-left, or-false-right, or-both, upFrom-split, flatMap-append, flat-next}
 
 -- ---- tables of checks
 
@@ -71,6 +72,45 @@ passes-each t a (suc n) k e l m = pick (eq-or-lt-of-le l) (passes-each t (suc a)
     pick : (a ≡ k) ⊎ (a < k) → (suc a ≤ k → k < suc a + n → firstRefusal (t k) ≡ none) → firstRefusal (t k) ≡ none
     pick (inl q) ih = ap (λ (x : ℕ). firstRefusal (t x)) (sym q) ∙ passes-left (t a) (flatMap t (upFrom (suc a) n)) e
     pick (inr q) ih = ih q (omega arith)
+
+-- ---- tables that are passed, from their checks
+
+-- the empty table is passed
+pub pass-none : firstRefusal [] ≡ none
+unfolding firstRefusal
+pass-none = refl
+
+-- a check that passes, before a table that is passed
+pub pass-cons : (c : Check) (cs : List Check) → c .fails ≡ false → firstRefusal cs ≡ none → firstRefusal (c ∷ cs) ≡ none
+unfolding firstRefusal
+pass-cons c cs e p = rw e p
+
+-- two tables, each passed
+pub pass-append : (cs ds : List Check) → firstRefusal cs ≡ none → firstRefusal ds ≡ none → firstRefusal (cs ++ ds) ≡ none
+pass-append cs ds p q = refusal-append cs ds p ∙ q
+
+-- the tables of a row, each passed
+pub pass-each : (t : ℕ → List Check) (a n : ℕ) → ((k : ℕ) → a ≤ k → k < a + n → firstRefusal (t k) ≡ none) → firstRefusal (flatMap t (upFrom a n)) ≡ none
+unfolding flatMap upFrom
+pass-each t a zero h = pass-none
+pass-each t a (suc n) h = pass-append (t a) (flatMap t (upFrom (suc a) n)) (h a (omega arith) (omega arith)) (pass-each t (suc a) n (λ k l m. h k (omega arith) (omega arith)))
+
+-- passing depends on the tests alone: the refusals that two tables would give, and so their details, may differ
+pub same-tests : (cs ds : List Check) → map (λ c. c .fails) cs ≡ map (λ c. c .fails) ds → firstRefusal cs ≡ none → firstRefusal ds ≡ none
+same-tests [] [] e p = p
+same-tests [] (d ∷ ds) e p = let z : _≡_ {A = ℕ} 0 1 = cc in absurd (omega arith)
+same-tests (c ∷ cs) [] e p = let z : _≡_ {A = ℕ} 0 1 = cc in absurd (omega arith)
+same-tests (c ∷ cs) (d ∷ ds) e p =
+    let h : d .fails ≡ c .fails = cc in
+    let t : map (λ c. c .fails) cs ≡ map (λ c. c .fails) ds = cc in
+    pass-cons d ds (h ∙ passes-head c cs p) (same-tests cs ds t (passes-tail c cs p))
+
+-- a test whether two numbers differ fails where they are equal
+pub same-passes : (a b : ℕ) → a ≡ b → not (eqb a b) ≡ false
+same-passes a b e = rw (eq-eqb a b e)
+
+-- from what the checks of a table ask for to the table that is passed
+pub ruleset to-pass = (pass-none, pass-cons, pass-append, same-passes, or-both, le-ltb, lt-leb)
 
 -- ---- tables of checks over a row, one number after the other
 

@@ -1,23 +1,24 @@
 -- What an accepted file's loop obeys, and how the loop is read off the bytes. Assumes nothing.
 use mathlib.Core.Path.{_≡_, refl, sym, ap, ap₂, _∙_, subst}
 use mathlib.Core.Bool.{true}
-use mathlib.Core.List.{List, [], _∷_, _++_, map, flatMap, append-nil, append-assoc}
+use mathlib.Core.List.{List, map, flatMap}
 use mathlib.Core.Logic.{_⊎_, inl, inr}
 use mathlib.Core.Option.{none}
 use Prim.Native.Nat.{ℕ, zero, suc, _+_, _*_, _%_, _≤_, _<_}
-use native.Mathlib.Nat.{zero-add, add-zero, eq-or-lt-of-le}
+use native.Mathlib.Nat.{zero-add, eq-or-lt-of-le}
 use native.Mathlib.Omega.{arith}
 use borrow.Author.Tests.{ltb-false, leb-false, eqb-true, not-false}
 use lib.Dec.{T}
 use lib.IntN.{ℤ}
-use lib.ListN.{length, getD, take}
-use lib.Seq.{take-suc}
+use lib.ListN.{length, getD}
 use lib.Signed.{leZ, leZ-yes, _≤ℤ_}
 use Rattle.model.specs.Lists.{upFrom, sumOf}
 use Rattle.model.specs.Refusals.{firstRefusal}
-use Rattle.model.specs.Loop.{Use, Op, noUse, noOp, allUses, firstUseOf, noDep, size, opAt, depAt, useAt, UseOk, OpOk, DepOk, LoopOk}
+use Rattle.model.specs.Loop.{Op, noUse, noOp, allUses, firstUseOf, noDep, size, opAt, depAt, useAt, UseOk, OpOk, DepOk, LoopOk}
 use Rattle.model.specs.File.{byteAt, Section, useWidth, longest, oper, uses, deps, lengthOf, recordsOf, endAt, opCount, depCount, opRecord, usesOf, firstUse, useRecord, depRecord, useIn, opIn, depIn, loopOf, lengthChecks, headChecks, entryChecks, contentsChecks, opChecks, opChecksAt, slotBelow, useChecks, useChecksAt, opUseChecks, usesChecks, depChecks, depChecksAt, fileChecks, Accepted}
-use Rattle.model.proofs.Lists.{upFrom-snoc, upFrom-split, map-append, sum-append, length-tabulate, getD-tabulate, and-left, and-right, or-false-left, or-false-right}
+use Rattle.model.proofs.Lists.{length-tabulate, getD-tabulate, and-left, and-right, or-false-left, or-false-right}
+use Rattle.model.proofs.Rows.{row-join, flat-map, flat-grows}
+use Rattle.model.proofs.Loop.{first-next}
 use Rattle.model.proofs.Checks.{passes-left, passes-right, passes-head, passes-tail, passes-each}
 
 -- ---- the loop read off the bytes
@@ -50,35 +51,21 @@ uses-is f o = length-tabulate (useIn f) (firstUse f o) (usesOf f o)
 pub use-is : (f : List ℕ) (o j : ℕ) → j < usesOf f o → useAt (opIn f o) j ≡ useIn f (firstUse f o + j)
 use-is f o j l = getD-tabulate (useIn f) (firstUse f o) (usesOf f o) j noUse l
 
--- the uses of the first n operations are the first uses of the file, and end where those of operation n begin
-uses-row : (f : List ℕ) (n : ℕ) → flatMap (λ p. p .uses) (map (opIn f) (upFrom 0 n)) ≡ map (useIn f) (upFrom 0 (firstUse f n))
-unfolding flatMap upFrom firstUse
-uses-row f zero = refl
-uses-row f (suc n) =
-    ap (λ (r : List ℕ). flatMap (λ p. p .uses) (map (opIn f) r)) (upFrom-snoc 0 n ∙ ap (λ (k : ℕ). upFrom 0 n ++ (k ∷ [])) (zero-add n))
-    ∙ flat-snoc (upFrom 0 n)
-    ∙ ap (λ (r : List Use). r ++ map (useIn f) (upFrom (firstUse f n) (usesOf f n))) (uses-row f n)
-    ∙ sym (ap (map (useIn f)) (upFrom-split 0 (firstUse f n) (usesOf f n) ∙ ap (λ (k : ℕ). upFrom 0 (firstUse f n) ++ upFrom k (usesOf f n)) (zero-add (firstUse f n)))
-    ∙ map-append (useIn f) (upFrom 0 (firstUse f n)) (upFrom (firstUse f n) (usesOf f n)))
-  where
-    flat-snoc : (r : List ℕ) → flatMap (λ p. p .uses) (map (opIn f) (r ++ (n ∷ []))) ≡ flatMap (λ p. p .uses) (map (opIn f) r) ++ map (useIn f) (upFrom (firstUse f n) (usesOf f n))
-    flat-snoc [] = append-nil (map (useIn f) (upFrom (firstUse f n) (usesOf f n)))
-    flat-snoc (k ∷ r) = ap (λ (t : List Use). opIn f k .uses ++ t) (flat-snoc r) ∙ sym (append-assoc (opIn f k .uses) _ _)
-
 -- the uses of the loop are those of the file, one after the other
 pub all-uses-is : (f : List ℕ) → allUses (loopOf f) ≡ map (useIn f) (upFrom 0 (firstUse f (opCount f)))
-unfolding allUses loopOf
-all-uses-is f = uses-row f (opCount f)
+unfolding allUses loopOf upFrom firstUse
+all-uses-is f =
+    flat-map (λ p. p .uses) (opIn f) (upFrom 0 (opCount f))
+    ∙ flat-grows (λ o. map (useIn f) (upFrom 0 (firstUse f o))) (λ o. opIn f o .uses) 0 (opCount f)
+    (λ o l m. row-join (useIn f) 0 (firstUse f o) (firstUse f o) (usesOf f o) (firstUse f o + usesOf f o) (omega arith) refl)
+    ∙ ap (λ (n : ℕ). map (useIn f) (upFrom 0 (firstUse f n))) (zero-add (opCount f))
 
 -- operation o's first use among all uses is where the file counts it
 pub first-use-is : (f : List ℕ) (o : ℕ) → o ≤ opCount f → firstUseOf (loopOf f) o ≡ firstUse f o
 unfolding firstUseOf firstUse sumOf
 first-use-is f zero h = refl
 first-use-is f (suc o) h =
-    let l : o < size (loopOf f) = rw size-is h in
-    ap (sumOf (λ p. length (p .uses))) (take-suc (loopOf f .ops) o noOp l)
-    ∙ sum-append (λ p. length (p .uses)) (take o (loopOf f .ops)) (opAt (loopOf f) o ∷ [])
-    ∙ ap₂ _+_ (first-use-is f o (omega arith)) (add-zero (length (opAt (loopOf f) o .uses)) ∙ ap (λ (p : Op). length (p .uses)) (op-is f o h) ∙ uses-is f o)
+    first-next (loopOf f) o (rw size-is h) ∙ ap₂ _+_ (first-use-is f o (omega arith)) (ap (λ (p : Op). length (p .uses)) (op-is f o h) ∙ uses-is f o)
 
 -- ---- the layout
 
@@ -97,19 +84,19 @@ pub record Layout (f : List ℕ) : Type 0 where
   pub ends : endAt f ≡ length f
 
 -- from a table that is passed to what its checks say
-ruleset passing = (passes-left, passes-right, passes-head, passes-tail, or-false-left, or-false-right, not-false, eqb-true, ltb-false, leb-false)
+pub ruleset passing = (passes-left, passes-right, passes-head, passes-tail, or-false-left, or-false-right, not-false, eqb-true, ltb-false, leb-false)
 
 -- the tables of an accepted file, each passed
-record Passed (f : List ℕ) : Type 0 where
-  of-length : firstRefusal (lengthChecks f) ≡ none
-  of-head : firstRefusal (headChecks f) ≡ none
-  of-contents : firstRefusal (contentsChecks f) ≡ none
-  of-ops : firstRefusal (flatMap (λ o. opChecksAt f (opRecord o)) (upFrom 0 (opCount f))) ≡ none
-  of-uses : firstRefusal (usesChecks f) ≡ none
-  of-deps : firstRefusal (flatMap (λ e. depChecksAt f (opCount f) (depRecord f e)) (upFrom 0 (depCount f))) ≡ none
+pub record Passed (f : List ℕ) : Type 0 where
+  pub of-length : firstRefusal (lengthChecks f) ≡ none
+  pub of-head : firstRefusal (headChecks f) ≡ none
+  pub of-contents : firstRefusal (contentsChecks f) ≡ none
+  pub of-ops : firstRefusal (flatMap (λ o. opChecksAt f (opRecord o)) (upFrom 0 (opCount f))) ≡ none
+  pub of-uses : firstRefusal (usesChecks f) ≡ none
+  pub of-deps : firstRefusal (flatMap (λ e. depChecksAt f (opCount f) (depRecord f e)) (upFrom 0 (depCount f))) ≡ none
 
 -- an accepted file passes each table
-passed : (f : List ℕ) → Accepted f → Passed f
+pub passed : (f : List ℕ) → Accepted f → Passed f
 unfolding fileChecks
 passed f a = search passing
 
@@ -222,7 +209,7 @@ op-passes f o p l =
     }
 
 -- a test of order that is true
-leZ-true : (a b : ℤ) → leZ a b ≡ true → a ≤ℤ b
+pub leZ-true : (a b : ℤ) → leZ a b ≡ true → a ≤ℤ b
 leZ-true a b e = leZ-yes (subst T (sym e) tt)
 
 -- every dependence of an accepted file is in range

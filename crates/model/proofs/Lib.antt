@@ -1,5 +1,6 @@
 -- The laws of the model that the layers cite, and the theorem of the worked cases.
 pub mod Lists
+pub mod Rows
 pub mod Checks
 pub mod Firsts
 pub mod Sums
@@ -8,6 +9,12 @@ pub mod Signed
 pub mod Machine
 pub mod Loop
 pub mod File
+pub mod Records
+pub mod Written
+pub mod Given
+pub mod GivenFile
+pub mod Fields
+pub mod Writer
 pub mod Delays
 pub mod StartLists
 pub mod Legality

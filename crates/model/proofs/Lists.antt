@@ -163,6 +163,13 @@ module _ {A : Type 0} where
   at-any p [] d h = refl
   at-any p (x ∷ xs) d h = or-both (p x) (anyOf p xs) (h 0 (omega arith)) (at-any p xs d (λ i l. h (suc i) (omega arith)))
 
+  -- no element passes, nor does what stands past the end
+  pub any-each : (p : A → Bool) (xs : List A) (d : A) → anyOf p xs ≡ false → p d ≡ false → (i : ℕ) → p (getD xs i d) ≡ false
+  unfolding anyOf
+  any-each p [] d e h i = h
+  any-each p (x ∷ xs) d e h zero = or-false-left (p x) (anyOf p xs) e
+  any-each p (x ∷ xs) d e h (suc i) = any-each p xs d (or-false-right (p x) (anyOf p xs) e) h i
+
   pub any-map : {B : Type 0} (p : A → Bool) (f : B → A) (xs : List B) → anyOf p (map f xs) ≡ anyOf (λ x. p (f x)) xs
   unfolding anyOf
   any-map p f [] = refl

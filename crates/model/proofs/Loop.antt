@@ -1,14 +1,15 @@
 -- Where the uses of an operation stand among all uses, and their ranges. Assumes nothing.
-use mathlib.Core.Path.{_≡_, _∙_}
+use mathlib.Core.Path.{_≡_, refl, ap, _∙_}
 use mathlib.Core.List.{List, [], _∷_, flatMap}
 use Prim.Native.Nat.{ℕ, zero, suc, _+_, _-_, _*_, _≤_, _<_}
 use native.Mathlib.Decide.{decLt}
-use native.Mathlib.Nat.{zero-add, add-assoc, le-of-suc-le-suc, not-suc-le-zero}
+use native.Mathlib.Nat.{zero-add, add-zero, add-assoc, le-of-suc-le-suc, not-suc-le-zero}
 use native.Mathlib.Omega.{arith}
 use lib.ListN.{length, getD, take, length-append, List·getD-append}
-use lib.Seq.{getD-append-add}
+use lib.Seq.{getD-append-add, take-suc, take-length}
 use Rattle.model.specs.Lists.{sumOf}
 use Rattle.model.specs.Loop.{Use, Op, Loop, noUse, noOp, size, opAt, useAt, allUses, firstUseOf, UseOk, OpOk, LoopOk}
+use Rattle.model.proofs.Lists.{sum-append}
 
 -- use j of operation o is use firstUseOf o + j of all
 pub use-among : (l : Loop) (o j : ℕ) → o < size l → j < length (opAt l o .uses) → getD (allUses l) (firstUseOf l o + j) noUse ≡ useAt (opAt l o) j
@@ -31,6 +32,23 @@ use-within l o = go (l .ops) o
     go [] o h = absurd (not-suc-le-zero h)
     go (p ∷ ps) zero h = rw length-append (omega arith)
     go (p ∷ ps) (suc o) h = rw length-append (omega (arith, go ps o (le-of-suc-le-suc h)))
+
+-- where the uses of the next operation begin
+pub first-next : (l : Loop) (o : ℕ) → o < size l → firstUseOf l (suc o) ≡ firstUseOf l o + length (opAt l o .uses)
+unfolding firstUseOf sumOf
+first-next l o h =
+    ap (sumOf (λ p. length (p .uses))) (take-suc (l .ops) o noOp h)
+    ∙ sum-append (λ p. length (p .uses)) (take o (l .ops)) (opAt l o ∷ [])
+    ∙ ap (λ (k : ℕ). firstUseOf l o + k) (add-zero (length (opAt l o .uses)))
+
+-- and where those of the last end
+pub first-last : (l : Loop) → firstUseOf l (size l) ≡ length (allUses l)
+unfolding firstUseOf allUses flatMap sumOf
+first-last l = ap (sumOf (λ p. length (p .uses))) (take-length (l .ops)) ∙ go (l .ops)
+  where
+    go : (ps : List Op) → sumOf (λ p. length (p .uses)) ps ≡ length (flatMap (λ p. p .uses) ps)
+    go [] = refl
+    go (p ∷ ps) = rw length-append (ap (λ (k : ℕ). length (p .uses) + k) (go ps))
 
 -- ---- the ranges of all uses
 

@@ -1,13 +1,13 @@
 -- The starred worked cases of document 01, as one list; proofs/Cases.antt proves them by one theorem. Assumes nothing.
 use mathlib.Core.Path.{_≡_}
-use mathlib.Core.List.{List, [], _∷_, _++_}
+use mathlib.Core.List.{List, [], _∷_}
 use mathlib.Core.Option.{none, some}
-use Prim.Native.Nat.{ℕ, _+_, _/_, _%_}
-use lib.IntN.{pos}
-use lib.ListN.{length}
+use Prim.Native.Nat.{ℕ}
+use lib.IntN.{ℤ, pos, negsuc}
 use Rattle.model.specs.Refusals.{Answer, answered, refused}
 use Rattle.model.specs.Loop.{Use, Loop}
 use Rattle.model.specs.File.{readFile}
+use Rattle.model.specs.Writer.{fileWith, Fields, writeFile}
 use Rattle.model.specs.Bounds.{Lower, BoundsIs}
 use Rattle.model.specs.Search.{Request, Outcome, found, ended, SearchIs, Line, listing}
 use Rattle.model.specs.Session.{Setup, Starts, Call, place, force, remove, checkpoint, rollback, Reply, done, displaced, numbered, start, after, replies, openFile, stateTable}
@@ -15,10 +15,11 @@ use Rattle.model.specs.Verifier.{Verdict, isLegal, breach, clash, verify
 
 -- ---- what a case claims
 
--- the reading of a file; its bounds; the verdict on a list of starts; what a search answers, with 64 numbers and 4,096 rows lent; the listing of
--- starts; and the replies, starts and rows of calls on a session opened with 4,096 rows lent
+-- the reading of a file; what the writer answers for lists of numbers and the length of a buffer; a file's bounds; the verdict on a list of starts; what a
+-- search answers, with 64 numbers and 4,096 rows lent; the listing of starts; and the replies, starts and rows of calls on a session opened with 4,096 rows lent
 pub data Case : Type 0 where
   reads : (f : List ℕ) → Answer Loop → Case
+  writes : Fields → (room : ℕ) → Answer (List ℕ) → Case
   bounded : (f : List ℕ) → Answer Lower → Case
   judged : (f : List ℕ) (ii : ℕ) (xs : List ℕ) → Answer Verdict → Case
   searched : (f : List ℕ) → Request → Answer Outcome → Case
@@ -36,6 +37,7 @@ pub record Called (f : List ℕ) (ii horizon : ℕ) (cs : List Call) (rs : List 
 -- the case holds
 abbrev pub CaseHolds : Case → Type 0
 CaseHolds (reads f a) = readFile f ≡ a
+CaseHolds (writes d room a) = writeFile d room ≡ a
 CaseHolds (bounded f a) = BoundsIs f a
 CaseHolds (judged f ii xs a) = verifyFile f ii xs ≡ a
 CaseHolds (searched f q a) = SearchIs f q 64 4096 a
@@ -49,18 +51,6 @@ pub data AllHold : List Case → Type 0 where
   _also_ : {c : Case} {cs : List Case} → CaseHolds c → AllHold cs → AllHold (c ∷ cs)
 
 -- ---- the loops
-
--- a number as two bytes, little-endian
-abbrev word : ℕ → List ℕ
-word n = n % 256 ∷ n / 256 ∷ []
-
--- a version 1 file with these bodies; that it is one is what the cases' readings show
-abbrev pub fileWith : (oper uses deps : List ℕ) → List ℕ
-fileWith oper uses deps =
-    1 ∷ 3 ∷ 79 ∷ 80 ∷ 69 ∷ 82 ∷ word 26 ++ word (length oper)
-    ++ (85 ∷ 83 ∷ 69 ∷ 83 ∷ word (26 + length oper)) ++ word (length uses)
-    ++ (68 ∷ 69 ∷ 80 ∷ 83 ∷ word (26 + length oper + length uses)) ++ word (length deps)
-    ++ oper ++ uses ++ deps
 
 -- loop A, byte by byte: 50 bytes, bodies at 26, 32 and 38
 abbrev pub fileA : List ℕ
@@ -186,4 +176,42 @@ starred =
     (none ∷ none ∷ some 3 ∷ []) (1 ∷ 0 ∷ 0 ∷ [])
     ∷ called fileA 3 256 (place 0 0 ∷ checkpoint ∷ force 2 3 ∷ rollback 1 ∷ [])
     (answered done ∷ answered (numbered 1) ∷ answered (displaced 1) ∷ answered done ∷ []) (some 0 ∷ none ∷ none ∷ []) (1 ∷ 0 ∷ 0 ∷ [])
+    ∷ []
+
+-- ---- the writer
+
+-- the first three operations, two uses and one dependence of loop A, and these numbers after them
+abbrev pub numbersA : (ops uses deps : List ℤ) → Fields
+numbersA ops uses deps = record {
+  ops = pos 2 ∷ pos 1 ∷ pos 3 ∷ pos 1 ∷ pos 1 ∷ pos 1 ∷ ops;
+  uses = pos 1 ∷ pos 1 ∷ pos 2 ∷ pos 2 ∷ uses;
+  deps = pos 0 ∷ pos 1 ∷ pos 2 ∷ pos 0 ∷ deps;
+}
+
+-- the numbers of loop A
+abbrev pub allOfA : Fields
+allOfA = numbersA [] (pos 1 ∷ pos 1 ∷ []) (pos 1 ∷ pos 2 ∷ pos 3 ∷ pos 0 ∷ pos 1 ∷ pos 1 ∷ pos 3 ∷ pos 1 ∷ [])
+
+-- a refusal of the writer
+abbrev pub unwritten : (number detail : ℕ) → Answer (List ℕ)
+unwritten number detail = refused (record { number = number; detail = detail })
+
+-- loop A in a buffer of its length, and in a shorter one; then each refusal, with others that would come later: no operation, half an operation, half a
+-- dependence, a latency, a number of uses, a use too few, half a use too many, a slot that does not rise, a duration, a target, a delay, a distance
+abbrev pub writing : List Case
+writing =
+    writes allOfA 50 (answered fileA)
+    ∷ writes allOfA 49 (unwritten 20 49)
+    ∷ writes (record { ops = []; uses = []; deps = pos 1 ∷ [] }) 0 (unwritten 3 2)
+    ∷ writes (numbersA (pos 65 ∷ []) [] (pos 1 ∷ [])) 0 (unwritten 3 2)
+    ∷ writes (numbersA (pos 65 ∷ pos 0 ∷ []) [] (pos 1 ∷ [])) 0 (unwritten 3 18)
+    ∷ writes (numbersA (pos 65 ∷ pos 0 ∷ []) [] []) 0 (unwritten 4 3)
+    ∷ writes (numbersA (pos 64 ∷ negsuc 0 ∷ []) [] []) 0 (unwritten 4 3)
+    ∷ writes (numbersA [] [] []) 0 (unwritten 5 2)
+    ∷ writes (numbersA [] (pos 0 ∷ pos 1 ∷ pos 1 ∷ []) []) 0 (unwritten 5 3)
+    ∷ writes (numbersA (pos 0 ∷ pos 2 ∷ []) (pos 1 ∷ pos 1 ∷ pos 4 ∷ pos 1 ∷ pos 4 ∷ pos 1 ∷ []) (pos 4 ∷ pos 0 ∷ pos 0 ∷ pos 0 ∷ [])) 0 (unwritten 5 4)
+    ∷ writes (numbersA [] (pos 1 ∷ pos 17 ∷ []) (pos 3 ∷ pos 0 ∷ pos 0 ∷ pos 0 ∷ [])) 0 (unwritten 5 2)
+    ∷ writes (numbersA [] (pos 1 ∷ pos 1 ∷ []) (pos 0 ∷ pos 3 ∷ pos 0 ∷ pos 0 ∷ [])) 0 (unwritten 6 1)
+    ∷ writes (numbersA [] (pos 1 ∷ pos 1 ∷ []) (pos 0 ∷ pos 2 ∷ negsuc 64 ∷ pos 0 ∷ [])) 0 (unwritten 6 1)
+    ∷ writes (numbersA [] (pos 1 ∷ pos 1 ∷ []) (pos 0 ∷ pos 2 ∷ negsuc 63 ∷ pos 16 ∷ [])) 0 (unwritten 6 1)
     ∷ []

@@ -188,14 +188,19 @@ unfoldable pub standsAt : List ℕ → ℕ → List ℕ → Bool
 standsAt f i [] = true
 standsAt f i (b ∷ bs) = eqb (byteAt f i) b && standsAt f (suc i) bs
 
+-- 3: a section's body of n bytes: whole records, as many as the section may have
+abbrev pub sizeChecks : Section → ℕ → List Check
+sizeChecks s n =
+    check (not (eqb (n % s .width) 0)) 3 (s .entry)
+    ∷ check (ltb (n / s .width) (s .least) || ltb (s .most) (n / s .width)) 3 (s .entry)
+    ∷ []
+
 -- 3: the entry of a section whose body must begin at `start`: tag, offset, length
 unfoldable pub entryChecks : List ℕ → Section → ℕ → List Check
 entryChecks f s start =
     check (not (standsAt f (s .entry) (s .tag))) 3 (s .entry)
     ∷ check (not (eqb (offsetOf f s) start)) 3 (s .entry)
-    ∷ check (not (eqb (lengthOf f s % s .width) 0)) 3 (s .entry)
-    ∷ check (ltb (recordsOf f s) (s .least) || ltb (s .most) (recordsOf f s)) 3 (s .entry)
-    ∷ []
+    ∷ sizeChecks s (lengthOf f s)
 
 -- 3: the three entries, and that the last body ends where the file does
 unfoldable pub contentsChecks : List ℕ → List Check

@@ -4,7 +4,8 @@ use mathlib.Core.List.{List, [], _∷_, _++_}
 use Prim.Native.Nat.{ℕ, zero, suc, _-_}
 use lib.Dec.{ltb}
 use lib.ListN.{getD, set, replicate}
-use Rattle.model.specs.Cases.{fileWith, fileA, fileB, fileB2, fileC, ring, four}
+use Rattle.model.specs.Writer.{fileWith}
+use Rattle.model.specs.Cases.{fileA, fileB, fileB2, fileC, ring, four}
 
 -- the dependences of i with i + 1 for the n operations i before operation m, each of delay 64 and distance 0
 abbrev pub chain : ℕ → ℕ → List ℕ
