@@ -1,14 +1,16 @@
--- The answers of reader, bounds, verifier, search and planner as numbers. Assumes nothing.
+-- The answers of reader, writer, bounds, verifier, search and planner as numbers. Assumes nothing.
 use mathlib.Core.Path.{_≡_}
 use mathlib.Core.Bool.{Bool, cond}
 use mathlib.Core.List.{List, [], _∷_}
 use Prim.Native.Nat.{ℕ}
 use lib.ListN.{length}
 use Rattle.model.specs.Refusals.{Answer, answered, refused}
+use Rattle.model.specs.Writer.{Fields, writeFile, bufferAfter}
 use Rattle.model.specs.Bounds.{Lower, BoundsIs}
 use Rattle.model.specs.Search.{Outcome, found, ended, SearchIs, listAfter, rowsAfter}
 use Rattle.model.specs.Verifier.{Verdict, isLegal, breach, clash}
 use Rattle.loop_file.specs.Read.{Counts}
+use Rattle.loop_writer.specs.Answer.{bytesIn}
 use Rattle.planner.specs.Answer.{PlanEnd, scheduled, unscheduled, PlansIs, planList, planRows}
 use Rattle.refusals.specs.declared.Checked.{Checked}
 use Rattle.refusals.specs.declared.Checked.the-variants as checked
@@ -33,6 +35,10 @@ pub record RefusalGiven (c : Checked) (r : ℕ) (before after : List ℕ) : Type
 abbrev pub countWords : Counts → List ℕ
 countWords c = c .ops ∷ c .uses ∷ c .deps ∷ 0 ∷ 0 ∷ 0 ∷ 0 ∷ []
 
+-- a number of bytes
+abbrev pub byteWords : ℕ → List ℕ
+byteWords n = n ∷ 0 ∷ 0 ∷ 0 ∷ 0 ∷ 0 ∷ 0 ∷ []
+
 -- resource and recurrence bound
 abbrev pub lowerWords : Lower → List ℕ
 lowerWords b = b .resource ∷ b .recurrence ∷ 0 ∷ 0 ∷ 0 ∷ 0 ∷ 0 ∷ []
@@ -42,6 +48,11 @@ abbrev pub verdictWords : Verdict → List ℕ
 verdictWords isLegal = 0 ∷ 0 ∷ 0 ∷ 0 ∷ 0 ∷ 0 ∷ 0 ∷ []
 verdictWords (breach e) = 1 ∷ e ∷ 0 ∷ 0 ∷ 0 ∷ 0 ∷ 0 ∷ []
 verdictWords (clash a b n) = 2 ∷ a ∷ b ∷ n ∷ 0 ∷ 0 ∷ 0 ∷ []
+
+-- the file of lists of numbers: the answer is the model's, and so is what the buffer then holds
+pub record WriteGiven (d : Fields) (buffer before : List ℕ) (r : ℕ) (buffer′ after : List ℕ) : Type 0 where
+  pub gives : Gives (bytesIn (writeFile d (length buffer))) byteWords r before after
+  pub buffer-is : buffer′ ≡ bufferAfter (writeFile d (length buffer)) buffer
 
 -- the bounds of a file
 pub record BoundsGiven (f : List ℕ) (r : ℕ) (before after : List ℕ) : Type 0 where

@@ -2,6 +2,7 @@
 // an answer returns 0, or the number of the refusal, and writes all eight: first the refusal's detail, 0 where there is none, then what was found, then zeros. None asks for anything.
 use bounds::LowerBounds;
 use loop_file::Reading;
+use loop_writer::Written;
 use planner::Planned;
 use refusals::Checked;
 use search::Searched;
@@ -12,8 +13,9 @@ ghost use Rattle.model.specs.File.{readFile};
 ghost use Rattle.model.specs.Search as model;
 ghost use Rattle.model.specs.Verifier.{verifyFile};
 ghost use Rattle.loop_file.specs.Read.{counted};
+ghost use Rattle.loop_writer.specs.Answer.{fieldsBy};
 ghost use Rattle.replay.specs.Words.{written, Gives};
-ghost use Rattle.mwelitunga.specs.Words.{RefusalGiven, countWords, verdictWords, flag, BoundsGiven, SearchGiven, PlanGiven};
+ghost use Rattle.mwelitunga.specs.Words.{RefusalGiven, countWords, verdictWords, flag, WriteGiven, BoundsGiven, SearchGiven, PlanGiven};
 ghost use Rattle.replay.specs.Replay.{Replayed};
 
 // The eight numbers of an answer, the last two 0.
@@ -58,6 +60,30 @@ pub extern "C" fn mw_read(file: &[u8], answer: &mut [u64; 8]) -> usize
             0
         }
         Reading::Refused(number, detail) => {
+            write_answer(answer, detail, 0, 0, 0, 0, 0);
+            number
+        }
+    }
+}
+
+// Writes the file of the loop whose records the lists have: its number of bytes; the file at the beginning of the buffer.
+#[no_mangle]
+pub extern "C" fn mw_write(
+    ops: &[i32],
+    uses: &[i32],
+    deps: &[i32],
+    buffer: &mut [u8],
+    answer: &mut [u64; 8],
+) -> usize
+    ensures { λ r. ⌜ WriteGiven (fieldsBy (now (ops .entry)) (now (uses .entry)) (now (deps .entry))) (now (buffer .entry)) (now (answer .entry)) r (now (buffer .exit)) (now (answer .exit)) ⌝ }
+{
+    let written = loop_writer::write(ops, uses, deps, buffer);
+    match written {
+        Written::Bytes(bytes) => {
+            write_answer(answer, 0, bytes, 0, 0, 0, 0);
+            0
+        }
+        Written::Refused(number, detail) => {
             write_answer(answer, detail, 0, 0, 0, 0, 0);
             number
         }
