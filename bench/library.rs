@@ -4,6 +4,7 @@
 //     library TURNS ROW..
 //
 //     search HORIZON FILE             mw_search on a loop that uses up the 1,000,000 probes; also against bench/one_by_one.rs
+//     write FILE                      mw_write with the numbers of the file's loop
 //     bounds FILE                     mw_bounds
 //     session INTERVAL SPREAD FILE    mw_session with 20,000 calls, all starts below SPREAD
 //     open INTERVAL FILE              mw_session with no calls: what opening takes
@@ -96,6 +97,26 @@ fn search_row(turns: usize, horizon: usize, path: &str) -> Result<(), String> {
     Ok(())
 }
 
+fn write_row(turns: usize, path: &str) -> Result<(), String> {
+    let (name, file) = read(path)?;
+    let code = plain::file::read(&file).map_err(|refusal| format!("no loop: {refusal:?}"))?;
+    let lists = Lists::of(&code);
+    let m = compare(
+        turns,
+        REPEATS,
+        0,
+        &[&|m| rust_write(black_box(&lists), m), &|m| {
+            proved_write(black_box(&lists), m)
+        }],
+    )?;
+    if m.left.buffer[..file.len()] != file {
+        return Err("another file is written".to_string());
+    }
+    let call = format!("write ({} bytes), loop {name}", file.len());
+    print(&call, 1, "call", &m, &[]);
+    Ok(())
+}
+
 fn bounds_row(turns: usize, path: &str) -> Result<(), String> {
     let (name, file) = read(path)?;
     let m = compare(
@@ -149,6 +170,7 @@ fn open_row(turns: usize, interval: usize, path: &str) -> Result<(), String> {
 fn row(turns: usize, kind: &str, words: &[String]) -> Result<(), String> {
     match (kind, words) {
         ("search", [horizon, path]) => search_row(turns, number(horizon)?, path),
+        ("write", [path]) => write_row(turns, path),
         ("bounds", [path]) => bounds_row(turns, path),
         ("session", [interval, spread, path]) => {
             session_row(turns, number(interval)?, number(spread)?, path)
@@ -166,7 +188,7 @@ fn rows(words: &[String]) -> Result<(), String> {
     let mut rest = rest;
     while let [kind, more @ ..] = rest {
         let width = match kind.as_str() {
-            "bounds" => 1,
+            "write" | "bounds" => 1,
             "session" => 3,
             _ => 2,
         };

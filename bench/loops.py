@@ -88,10 +88,11 @@ def rows(folder):
     near, far = (put(folder, f"window-24-below-{horizon}", window(24, horizon)) for horizon in (64, 256))
     others = [put(folder, f"{kind.__name__}-24", kind(24)) for kind in (conflict, mixed)]
     hard = {64: [near] + others, 256: [far] + others, 4096: others}
-    session = put(folder, "busy", busy())
+    session, most = (put(folder, loop.__name__, loop()) for loop in (busy, largest))
     return (
         [["search", horizon, path] for horizon, paths in hard.items() for path in paths]
-        + [["bounds", put(folder, "largest", largest())]]
+        + [["write", path] for path in (session, most)]
+        + [["bounds", most]]
         + [["session", interval, spread, session] for interval, spread in ((8, 7), (4096, 7), (4096, 4096))]
         + [["open", interval, session] for interval in (8, 4096)]
     )

@@ -5,7 +5,8 @@
 // (eight numbers for an answer, 64 starts for a session), and what is written overlaps nothing.
 
 use crate::sys::{
-    mw_bounds, mw_plan, mw_read, mw_search, mw_session, mw_verify, Answer, SessionStarts as Starts,
+    mw_bounds, mw_plan, mw_read, mw_search, mw_session, mw_verify, mw_write, Answer,
+    SessionStarts as Starts,
 };
 
 // The largest cap and budget, the rows that a search is lent, and the horizon of every session.
@@ -13,6 +14,9 @@ pub const CAP: usize = 4096;
 pub const BUDGET: usize = 1_000_000;
 pub const ROWS: usize = 4096;
 pub const SESSION_HORIZON: usize = 4096;
+
+// The bytes of the longest file.
+const FILE_MOST: usize = 1690;
 
 #[link(name = "mwelitunga", kind = "static")]
 extern "C" {}
@@ -24,6 +28,7 @@ pub struct Memory {
     pub starts: Starts,
     pub rows: Vec<u64>,
     pub replies: Vec<u64>,
+    pub buffer: Vec<u8>,
 }
 
 impl Memory {
@@ -35,6 +40,7 @@ impl Memory {
             starts: [12345; 64],
             rows: vec![u64::MAX; ROWS],
             replies: vec![u64::MAX; 2 * n],
+            buffer: vec![255; FILE_MOST],
         }
     }
 }
@@ -60,6 +66,29 @@ impl Asked {
 
 pub fn proved_read(file: &[u8], m: &mut Memory) {
     m.result = unsafe { mw_read(file.as_ptr(), file.len(), &mut m.answer) };
+}
+
+// The numbers of a loop, as mw_write takes them.
+pub struct Lists {
+    pub ops: Vec<i32>,
+    pub uses: Vec<i32>,
+    pub deps: Vec<i32>,
+}
+
+pub fn proved_write(lists: &Lists, m: &mut Memory) {
+    m.result = unsafe {
+        mw_write(
+            lists.ops.as_ptr(),
+            lists.ops.len(),
+            lists.uses.as_ptr(),
+            lists.uses.len(),
+            lists.deps.as_ptr(),
+            lists.deps.len(),
+            m.buffer.as_mut_ptr(),
+            m.buffer.len(),
+            &mut m.answer,
+        )
+    };
 }
 
 pub fn proved_bounds(file: &[u8], m: &mut Memory) {

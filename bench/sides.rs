@@ -5,8 +5,10 @@ use crate::one_by_one;
 use crate::plain::bounds::bounds;
 use crate::plain::replay::replay;
 use crate::plain::search::{search, Found, NotFound, Request};
+use crate::plain::file::Loop;
+use crate::plain::writer::write_lists;
 use crate::plain::Refusal;
-use crate::proved::{Memory, BUDGET, CAP, SESSION_HORIZON};
+use crate::proved::{Lists, Memory, BUDGET, CAP, SESSION_HORIZON};
 
 impl Memory {
     // A result of 0, and an answer that has these words after the first.
@@ -49,6 +51,32 @@ fn asked(horizon: usize) -> Request {
         cap: CAP,
         horizon,
         budget: BUDGET,
+    }
+}
+
+impl Lists {
+    pub fn of(code: &Loop) -> Lists {
+        let uses = code.operations.iter().flat_map(|op| &op.uses);
+        Lists {
+            ops: code
+                .operations
+                .iter()
+                .flat_map(|op| [op.latency.into(), op.uses.len() as i32])
+                .collect(),
+            uses: uses.flat_map(|u| [u.slot.into(), u.duration.into()]).collect(),
+            deps: code
+                .dependences
+                .iter()
+                .flat_map(|d| [d.from as i32, d.to as i32, d.delay, d.distance])
+                .collect(),
+        }
+    }
+}
+
+pub fn rust_write(lists: &Lists, m: &mut Memory) {
+    match write_lists(&lists.ops, &lists.uses, &lists.deps, &mut m.buffer) {
+        Ok(length) => m.accept(&[length]),
+        Err(refusal) => m.refuse(refusal),
     }
 }
 

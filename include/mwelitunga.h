@@ -1,4 +1,4 @@
-/* The C functions of the Mwelitunga library: loop files read, bounded, scheduled and verified, and sessions replayed.
+/* The C functions of the Mwelitunga library: loop files read, written, bounded, scheduled and verified, and sessions replayed.
  *
  * Link target/staticlib/libmwelitunga.a, which `rt staticlib mwelitunga` writes once the library is proved
  * (x86-64 Linux; of the C library it takes memcpy and memset). docs/FORMAT.md describes the loop file.
@@ -7,10 +7,10 @@
  * - Any bytes, numbers and starts may be passed: what is out of range is refused, or has the result that the comment says.
  * - A list is a pointer and the number of elements behind it. No pointer may be null, even where the number is 0:
  *   pass the address of any object of that type.
- * - What is written (answer; starts and rows of mw_search and mw_plan; rows, replies and starts of mw_session) may not overlap
- *   anything else that is passed to the same call. Nothing is kept after the call, and there is no hidden state.
+ * - What is written (answer; buffer of mw_write; starts and rows of mw_search and mw_plan; rows, replies and starts of mw_session) may
+ *   not overlap anything else that is passed to the same call. Nothing is kept after the call, and there is no hidden state.
  *
- * For mw_read, mw_bounds, mw_verify, mw_search, mw_plan and mw_session:
+ * For mw_read, mw_write, mw_bounds, mw_verify, mw_search, mw_plan and mw_session:
  * - The result is 0, or the number of the refusal, MW_REFUSED_...; the first check that fails gives it.
  * - All eight numbers of `answer` are written each time, whatever they were. Where the result is 0, answer[0] is 0,
  *   and the function's own comment names what follows. Where it is a refusal, answer[0] is its detail. All others are 0,
@@ -29,20 +29,21 @@ extern "C" {
 /* The version of the library and of this header; CHANGELOG.md says what each version has. */
 #define MWELITUNGA_VERSION "0.1.0"
 
-/* The largest loop file in bytes, and the most operations that a loop has. */
+/* The largest loop file in bytes, so that a buffer of this length is enough for mw_write, and the most operations that a loop has. */
 #define MW_FILE_MOST 1690
 #define MW_OPERATIONS_MOST 64
 
 /* The rows that mw_search and mw_plan ask for. */
 #define MW_SEARCH_ROWS 4096
 
-/* The refusals, each with its detail. 12, 13, 14, 16, 17, 18 and 19 are the answers of single calls of a session; so is 15 there. */
+/* The refusals, each with its detail. 12, 13, 14, 16, 17, 18 and 19 are the answers of single calls of a session; so is 15 there.
+ * Where mw_write has another detail it stands last; the number of an operation, use or dependence is its place in its list, from 0. */
 #define MW_REFUSED_FILE_LENGTH 1      /* fewer than 26 or more than 1690 bytes: the length, 1691 where it is longer than that */
 #define MW_REFUSED_HEAD 2             /* another version than 1: 0; another number of sections than 3: 1 */
-#define MW_REFUSED_SECTION 3          /* an entry with a wrong tag, offset or length: the offset of the entry */
-#define MW_REFUSED_OPERATION 4        /* a latency or a number of uses out of range: the offset of the byte */
-#define MW_REFUSED_USE 5              /* not as many uses as the operations have: where they begin; a slot or duration out of range, slots that do not rise: the offset of the byte */
-#define MW_REFUSED_DEPENDENCE 6       /* an operation number, a delay or a distance out of range: the offset of the byte */
+#define MW_REFUSED_SECTION 3          /* an entry with a wrong tag, offset or length: the offset of the entry; of mw_write, not 1 to 64 whole operations: 2; not 0 to 256 whole dependences: 18 */
+#define MW_REFUSED_OPERATION 4        /* a latency or a number of uses out of range: the offset of the byte; of mw_write, the operation's number */
+#define MW_REFUSED_USE 5              /* not as many uses as the operations have: where they begin; a slot or duration out of range, slots that do not rise: the offset of the byte; of mw_write, the number of whole uses given; the use's number */
+#define MW_REFUSED_DEPENDENCE 6       /* an operation number, a delay or a distance out of range: the offset of the byte; of mw_write, the dependence's number */
 #define MW_REFUSED_REQUEST 7          /* a cap or an interval out of range: 1; a horizon: 2; a budget: 3 */
 #define MW_REFUSED_CIRCLE 8           /* dependences that lead back to an operation within one iteration, with a delay above 0 in all: no interval is long enough: 0 */
 #define MW_REFUSED_RECURRENCE 9       /* the recurrence bound is above 4096: 0 */
@@ -56,7 +57,7 @@ extern "C" {
 #define MW_REFUSED_CONFLICT 17        /* the operation conflicts with itself or with a placed one: the number of the place, see below */
 #define MW_REFUSED_CHECKPOINTS 18     /* 16 checkpoints are open already: 0 */
 #define MW_REFUSED_NO_CHECKPOINT 19   /* there is no such checkpoint: 0 */
-#define MW_REFUSED_ROOM 20            /* a list that is shorter than the operations, or too few rows: the length that was passed */
+#define MW_REFUSED_ROOM 20            /* a list that is shorter than the operations, too few rows, or a buffer that is shorter than the file: the length that was passed */
 #define MW_REFUSED_REPLIES 254        /* mw_session: `replies` has room for fewer than two numbers a call: the length that was passed */
 #define MW_REFUSED_CALLS 255          /* mw_session: a call of no kind: its number from 0; numbers left over at the end: the number of whole calls */
 
@@ -91,6 +92,25 @@ extern "C" {
  * answer[1], [2], [3]: the numbers of operations, uses and dependences.
  * Refusals: 1 to 6. */
 size_t mw_read(const uint8_t *file, size_t file_length, uint64_t answer[8]);
+
+/* Writes the file of a loop to the beginning of a buffer. The loop is three flat lists, one record after the other; any numbers may stand
+ * in them, and the lengths count numbers.
+ *
+ * ops: two numbers an operation, its latency (0 to 64) and its number of uses (0 to 4); 1 to 64 operations.
+ * uses: two numbers a use, its slot (1 to 24, and above that of the same operation's use before) and its duration (1 to 16). The uses stand
+ *   in the order of their operations, as many as these say.
+ * deps: four numbers a dependence, from, to (operation numbers from 0), delay (-64 to 64) and distance (0 to 15); 0 to 256 dependences.
+ *
+ * answer[1]: the number of bytes of the file.
+ * Refusals, in this order: 3 for the list of operations, then for that of dependences; 4, operation by operation; 5 for the number of uses,
+ * then use by use; 6, dependence by dependence; 20.
+ *
+ * What it leaves: where the result is 0, the file stands first in `buffer`, and the rest of it is as it was; after any refusal all of it is
+ * as it was. The file is one that mw_read accepts, and its loop is the one that was given. A loop has one file only: what is read from an
+ * accepted file and written again has the same bytes. */
+size_t mw_write(
+    const int32_t *ops, size_t ops_length, const int32_t *uses, size_t uses_length, const int32_t *deps, size_t deps_length,
+    uint8_t *buffer, size_t buffer_length, uint64_t answer[8]);
 
 /* The two lower bounds of the interval.
  *

@@ -1,10 +1,13 @@
-/* Prints the schedule of a loop file, the verdict on starts for it, or the refusal, by the C functions of the library.
+/* Prints the schedule of a loop file, the verdict on starts for it, or the refusal, by the C functions of the library; and writes
+ * a loop file.
  *
  *     schedule FILE                             the schedule that mw_search finds
  *     schedule plan FILE                        the plan of mw_plan, with `smallest` or `legal` in place of the probes
  *     schedule verify FILE INTERVAL START..     the verdict of mw_verify on these starts, one for each operation
+ *     schedule write FILE [ROOM]                writes loop A of docs/FORMAT.md to FILE, by mw_write in a buffer of ROOM bytes (up to
+ *                                               1690, and so many where it is not given)
  *
- * The status is 0 where the file was read, whatever the answer, and 1 where it was not. */
+ * The status is 0 where the file was read or written, or the library refused, and 1 where the file was not read or written. */
 #include <errno.h>
 #include <inttypes.h>
 #include <stdio.h>
@@ -21,15 +24,24 @@ static uint8_t file[MW_FILE_MOST + 1];
 static uint16_t starts[MW_OPERATIONS_MOST];
 static uint64_t rows[MW_SEARCH_ROWS];
 
+/* Loop A: latency and number of uses of each operation; slot and duration of each use; from, to, delay and distance of each
+ * dependence. */
+static const int32_t ops[] = {2, 1, 3, 1, 1, 1};
+static const int32_t uses[] = {1, 1, 2, 2, 1, 1};
+static const int32_t deps[] = {0, 1, 2, 0, 1, 2, 3, 0, 1, 1, 3, 1};
+
+/* How many elements an array has. */
+#define LENGTH(array) (sizeof array / sizeof array[0])
+
 /* Says on standard error how the program is called. */
 static int usage(void) {
-    fprintf(stderr, "usage: schedule [plan] FILE\n       schedule verify FILE INTERVAL START..\n");
+    fprintf(stderr, "usage: schedule [plan] FILE\n       schedule verify FILE INTERVAL START..\n       schedule write FILE [ROOM]\n");
     return 1;
 }
 
-/* Says on standard error why the file was not read. */
-static int not_read(const char *name) {
-    fprintf(stderr, "schedule: cannot read %s: %s\n", name, strerror(errno));
+/* Says on standard error why the file was not read or written. */
+static int not_done(const char *what, const char *name) {
+    fprintf(stderr, "schedule: cannot %s %s: %s\n", what, name, strerror(errno));
     return 1;
 }
 
@@ -37,11 +49,11 @@ static int not_read(const char *name) {
 static int read_file(const char *name, size_t *length) {
     FILE *from = fopen(name, "rb");
     if (from == NULL) {
-        return not_read(name);
+        return not_done("read", name);
     }
     *length = fread(file, 1, sizeof file, from);
     if (ferror(from)) {
-        return not_read(name);
+        return not_done("read", name);
     }
     fclose(from);
     return 0;
@@ -107,6 +119,25 @@ static void verify(size_t length, size_t interval, size_t n) {
     }
 }
 
+/* Loop A in a buffer of `room` bytes and, where the library writes it there, in the file. */
+static int write_file(const char *name, size_t room) {
+    uint64_t answer[8];
+    size_t refusal = mw_write(ops, LENGTH(ops), uses, LENGTH(uses), deps, LENGTH(deps), file, room, answer);
+    if (refusal != 0) {
+        print_refusal(refusal, answer);
+        return 0;
+    }
+    FILE *to = fopen(name, "wb");
+    if (to == NULL) {
+        return not_done("write", name);
+    }
+    size_t written = fwrite(file, 1, answer[1], to);
+    if (fclose(to) != 0 || written != answer[1]) {
+        return not_done("write", name);
+    }
+    return 0;
+}
+
 /* A number from 0 to 65535 in decimal digits, or -1. */
 static long number(const char *word) {
     size_t digits = strspn(word, "0123456789");
@@ -134,6 +165,10 @@ static int take_proposal(int n, char **words, size_t *interval) {
 }
 
 int main(int argc, char **argv) {
+    if ((argc == 3 || argc == 4) && strcmp(argv[1], "write") == 0) {
+        long room = argc == 4 ? number(argv[3]) : MW_FILE_MOST;
+        return room < 0 || room > MW_FILE_MOST ? usage() : write_file(argv[2], (size_t)room);
+    }
     int planned = argc == 3 && strcmp(argv[1], "plan") == 0;
     int verified = argc > 3 && argc - 4 <= MW_OPERATIONS_MOST && strcmp(argv[1], "verify") == 0;
     size_t interval = 0, length = 0;

@@ -42,10 +42,10 @@ pub const OPERATIONS_MOST: usize = 64;
 
 /// A section of the file: where its entry stands, its tag, the bytes of a record, and how many records it may have.
 pub(super) struct Section {
-    entry: usize,
+    pub(super) entry: usize,
     pub(super) tag: &'static [u8; 4],
-    record: usize,
-    records: RangeInclusive<usize>,
+    pub(super) record: usize,
+    pub(super) records: RangeInclusive<usize>,
 }
 
 pub(super) const SECTIONS: [Section; 3] = [

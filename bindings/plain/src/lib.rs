@@ -6,7 +6,7 @@
 //! | Module | Content | Refusals |
 //! |---|---|---|
 //! | [`file`] | what a loop file describes, and how it is read | 1 to 6 |
-//! | [`writer`] | how a loop file is written | |
+//! | [`writer`] | how a loop file is written | 3 to 6, 20 |
 //! | [`bounds`] | the two lower bounds of the interval | 8, 9 |
 //! | [`legality`] | whether a dependence holds, whether operations conflict, and in which place | |
 //! | [`table`] | the rows, in which operations take their slots | |

@@ -8,6 +8,8 @@
 //! | Function | What it does |
 //! |---|---|
 //! | [`read`] | how many operations, uses and dependences a file has |
+//! | [`Loop::to_file`], [`write()`] | the file of a loop: of a plain value, or of flat lists of numbers in lent memory |
+//! | [`Loop::from_file`] | the loop of a file, as a plain value |
 //! | [`bounds`] | two lower bounds of the interval |
 //! | [`search`], [`search_in`] | the smallest interval and its first list of starts |
 //! | [`plan`] | a legal list of starts, found without a search where that is quick, and whether its interval is the smallest |
@@ -16,7 +18,8 @@
 //! | [`replay`] | a session, in which operations are placed, forced, removed and taken back |
 //!
 //! Every function takes any bytes and numbers whatever. What it cannot answer it refuses, by a [`Refusal`] with a number
-//! and a detail. Where operations conflict, the verdict or the refusal says in which [`Place`].
+//! and a detail. Where operations conflict, the verdict or the refusal says in which [`Place`]; where a [`Loop`] has no file,
+//! a [`WriteError`] says which record of it is wrong.
 //!
 //! ```
 //! let file = [
@@ -46,6 +49,7 @@
 mod bounds;
 mod conflict;
 mod file;
+mod loops;
 mod places;
 mod plan;
 mod refusal;
@@ -53,16 +57,19 @@ mod search;
 mod session;
 pub mod sys;
 mod verifier;
+mod writer;
 
 pub use bounds::{bounds, Bounds};
 pub use conflict::Place;
 pub use file::{read, Counts, FILE_MOST, OPERATIONS_MOST};
+pub use loops::{Dependence, Loop, Operation, Use};
 pub use places::{cycle, order, stage};
 pub use plan::{plan, Plan};
 pub use refusal::{Kind, Refusal};
 pub use search::{search, search_in, Found, Request, Schedule, SearchError, SEARCH_ROWS};
 pub use session::{replay, Call, Replay, Reply};
 pub use verifier::{verify, Verdict};
+pub use writer::{write, ListError, WriteError, Wrong};
 
 /// The version of this crate, which is that of the library and its C header (`MWELITUNGA_VERSION`).
 pub const VERSION: &str = env!("CARGO_PKG_VERSION");

@@ -9,7 +9,8 @@ use crate::Place;
 /// Why a call was refused: a number, and a detail whose meaning depends on the number.
 ///
 /// The checks are made in a fixed order, and the first that fails gives the refusal. [`Kind`] has a name for each
-/// number and says what its detail is.
+/// number and says what its detail is. Of 3 to 6 the message is about a file that was read; where one is written the
+/// detail is another, and [`ListError`](crate::ListError) and [`WriteError`](crate::WriteError) have messages of their own.
 ///
 /// ```
 /// use mwelitunga::{read, Kind, Refusal};
@@ -35,14 +36,18 @@ pub enum Kind {
     FileLength = 1,
     /// The version is not 1 (detail 0), or the number of sections is not 3 (detail 1).
     Head = 2,
-    /// An entry has a wrong tag, offset or length. Detail: the offset of the entry.
+    /// An entry has a wrong tag, offset or length. Detail: the offset of the entry. Of [`write`](crate::write): there are not
+    /// 1 to 64 whole operations (detail 2), or not 0 to 256 whole dependences (18).
     Section = 3,
-    /// A latency or a number of uses is out of range. Detail: the offset of the byte.
+    /// A latency or a number of uses is out of range. Detail: the offset of the byte; of [`write`](crate::write), the
+    /// operation's number.
     Operation = 4,
     /// There are not as many uses as the operations say (detail: where the uses begin), or a slot or a duration is out
-    /// of range, or a slot is not above the one before it (detail: the offset of the byte).
+    /// of range, or a slot is not above the one before it (detail: the offset of the byte). The details of
+    /// [`write`](crate::write) are the number of whole uses, and the number of the use among all.
     Use = 5,
-    /// An operation number, a delay or a distance is out of range. Detail: the offset of the byte.
+    /// An operation number, a delay or a distance is out of range. Detail: the offset of the byte; of
+    /// [`write`](crate::write), the dependence's number.
     Dependence = 6,
     /// The cap or the interval (detail 1), the horizon (2) or the budget (3) is out of range.
     Request = 7,
@@ -73,7 +78,8 @@ pub enum Kind {
     Checkpoints = 18,
     /// There is no such checkpoint. Detail: 0.
     NoCheckpoint = 19,
-    /// A list is shorter than the operations, or there are too few rows. Detail: the length that was passed.
+    /// A list is shorter than the operations, there are too few rows, or a buffer is shorter than the file. Detail: the
+    /// length that was passed.
     Room = 20,
     /// The list of replies has fewer than two numbers a call. Detail: its length. Only [`sys::mw_session`] gives it.
     ///

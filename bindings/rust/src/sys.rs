@@ -35,6 +35,26 @@ extern "C" {
     /// Refusals: 1 to 6.
     pub fn mw_read(file: *const u8, file_length: usize, answer: *mut Answer) -> usize;
 
+    /// Writes the file of a loop to the beginning of a buffer, from three flat lists of any numbers: `ops` has two an
+    /// operation (latency, number of uses), `uses` two a use (slot, duration), in the order of the operations, and `deps`
+    /// four a dependence (from, to, delay, distance). `answer[1]`: the number of bytes of the file.
+    ///
+    /// Refusals: 3 for the list of operations (detail 2) and then for that of dependences (18), where it is no whole number
+    /// of records or not of so many as a file has; 4, operation by operation; 5 for the number of uses (detail: how many
+    /// whole uses were given), then use by use; 6, dependence by dependence; 20. The detail of 4, of 5 for a use, and of 6
+    /// is the number of the record in its list. After a refusal the buffer is as it was, and else it is behind the file.
+    pub fn mw_write(
+        ops: *const i32,
+        ops_length: usize,
+        uses: *const i32,
+        uses_length: usize,
+        deps: *const i32,
+        deps_length: usize,
+        buffer: *mut u8,
+        buffer_length: usize,
+        answer: *mut Answer,
+    ) -> usize;
+
     /// The two lower bounds of the interval. `answer[1]`: the resource bound. `answer[2]`: the recurrence bound.
     ///
     /// Refusals: 1 to 6, 8, 9.

@@ -91,6 +91,8 @@ fn rust_type(parameter: &str) -> String {
         ("const uint8_t", name) if name.starts_with('*') => "*const u8",
         ("const uint16_t", name) if name.starts_with('*') => "*const u16",
         ("const uint64_t", name) if name.starts_with('*') => "*const u64",
+        ("const int32_t", name) if name.starts_with('*') => "*const i32",
+        ("uint8_t", name) if name.starts_with('*') => "*mut u8",
         ("uint16_t", name) if name.starts_with('*') => "*mut u16",
         ("uint64_t", name) if name.starts_with('*') => "*mut u64",
         ("uint64_t", name) if name.ends_with("[8]") => "*mut Answer",
@@ -119,7 +121,7 @@ fn of_sys() -> Functions {
 #[test]
 fn functions_have_the_types_of_the_header() {
     let header = of_header();
-    assert_eq!(header.len(), 9, "{header:?}");
+    assert_eq!(header.len(), 10, "{header:?}");
     assert_eq!(header, of_sys());
 }
 

@@ -116,6 +116,76 @@ fn loop_a_is_the_example_file() {
     assert_eq!(read(&made), Ok(counts));
 }
 
+/// The bytes of loop A, as `docs/FORMAT.md` has them.
+#[test]
+fn loop_a_is_written_byte_by_byte() {
+    let operation = |latency, slot, duration| mwelitunga::Operation {
+        latency,
+        uses: vec![mwelitunga::Use { slot, duration }],
+    };
+    let dependence = |from, to, delay, distance| mwelitunga::Dependence {
+        from,
+        to,
+        delay,
+        distance,
+    };
+    let described = mwelitunga::Loop {
+        operations: vec![operation(2, 1, 1), operation(3, 2, 2), operation(1, 1, 1)],
+        dependences: vec![
+            dependence(0, 1, 2, 0),
+            dependence(1, 2, 3, 0),
+            dependence(1, 1, 3, 1),
+        ],
+    };
+    let bytes = [
+        1, 3, 79, 80, 69, 82, 26, 0, 6, 0, 85, 83, 69, 83, 32, 0, 6, 0, 68, 69, 80, 83, 38, 0, 12,
+        0, 2, 1, 3, 1, 1, 1, 1, 1, 2, 2, 1, 1, 0, 1, 2, 0, 1, 2, 3, 0, 1, 1, 3, 1,
+    ];
+    assert_eq!(bytes.len(), 50);
+    assert_eq!(described.to_file().as_deref(), Ok(&bytes[..]));
+    assert_eq!(mwelitunga::Loop::from_file(&bytes), Ok(described));
+}
+
+/// What the writer answers for the first three operations, two uses and one dependence of loop A with some numbers after
+/// them, in a buffer of some bytes.
+fn written(more: [&[i32]; 3], room: usize) -> Result<usize, (usize, u64)> {
+    let [ops, uses, deps] = more;
+    let mut buffer = vec![0; room];
+    let written = mwelitunga::write(
+        &[&[2, 1, 3, 1, 1, 1], ops].concat(),
+        &[&[1, 1, 2, 2], uses].concat(),
+        &[&[0, 1, 2, 0], deps].concat(),
+        &mut buffer,
+    );
+    written.map_err(|error| (error.refusal.number, error.refusal.detail))
+}
+
+/// Loop A, and each refusal with others that would come later.
+#[test]
+fn what_the_writer_answers() {
+    let rest: [&[i32]; 3] = [&[], &[1, 1], &[1, 2, 3, 0, 1, 1, 3, 1]];
+    assert_eq!(written(rest, 50), Ok(50));
+    assert_eq!(written(rest, 49), Err((20, 49)));
+    assert_eq!(written([&[65], &[], &[1]], 0), Err((3, 2)));
+    assert_eq!(written([&[65, 0], &[], &[1]], 0), Err((3, 18)));
+    assert_eq!(written([&[65, 0], &[], &[]], 0), Err((4, 3)));
+    assert_eq!(written([&[64, -1], &[], &[]], 0), Err((4, 3)));
+    assert_eq!(written([&[], &[], &[]], 0), Err((5, 2)));
+    assert_eq!(written([&[], &[0, 1, 1], &[]], 0), Err((5, 3)));
+    let falls: [&[i32]; 3] = [&[0, 2], &[1, 1, 4, 1, 4, 1], &[4, 0, 0, 0]];
+    assert_eq!(written(falls, 0), Err((5, 4)));
+    assert_eq!(written([&[], &[1, 17], &[3, 0, 0, 0]], 0), Err((5, 2)));
+    assert_eq!(written([&[], &[1, 1], &[0, 3, 0, 0]], 0), Err((6, 1)));
+    assert_eq!(written([&[], &[1, 1], &[0, 2, -65, 0]], 0), Err((6, 1)));
+    assert_eq!(written([&[], &[1, 1], &[0, 2, -64, 16]], 0), Err((6, 1)));
+    let none = Refusal {
+        number: 3,
+        detail: 2,
+    };
+    let error = mwelitunga::write(&[], &[], &[1], &mut []).unwrap_err();
+    assert_eq!(error.refusal, none);
+}
+
 #[test]
 fn case_1_bounds() {
     let expected = Bounds {

@@ -1,5 +1,6 @@
 //! The C functions on memory with guards around it, so that every write outside of what is lent is seen.
 
+use crate::random::lists::Lists;
 use crate::random::Random;
 use mwelitunga::sys::{self, Answer};
 
@@ -16,6 +17,12 @@ pub struct Lent<T> {
 pub trait Element: Copy + PartialEq + std::fmt::Debug {
     /// An element cut from a number.
     fn cut(number: u64) -> Self;
+}
+
+impl Element for u8 {
+    fn cut(number: u64) -> u8 {
+        number as u8
+    }
 }
 
 impl Element for u16 {
@@ -69,6 +76,25 @@ pub fn read(random: &mut Random, file: &[u8]) -> Told {
     // SAFETY: the slice is valid for its length, and the answer for its eight numbers.
     told(random, |answer| unsafe {
         sys::mw_read(file.as_ptr(), file.len(), answer)
+    })
+}
+
+pub fn write(random: &mut Random, lists: &Lists, buffer: &mut Lent<u8>) -> Told {
+    let Lists { ops, uses, deps } = lists;
+    let buffer = buffer.part();
+    // SAFETY: the slices are valid for their lengths, the answer for its eight numbers, and none overlaps another.
+    told(random, |answer| unsafe {
+        sys::mw_write(
+            ops.as_ptr(),
+            ops.len(),
+            uses.as_ptr(),
+            uses.len(),
+            deps.as_ptr(),
+            deps.len(),
+            buffer.as_mut_ptr(),
+            buffer.len(),
+            answer,
+        )
     })
 }
 

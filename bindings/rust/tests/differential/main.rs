@@ -16,11 +16,13 @@ mod lent;
 mod places;
 mod plans;
 mod random;
+mod reasons;
 mod safe;
 mod searches;
 mod sessions;
 mod tally;
 mod verdicts;
+mod writes;
 
 use lent::Told;
 use mwelitunga::sys::Answer;

@@ -1,8 +1,11 @@
 //! What the plain implementation takes and answers, in the types of the crate.
 
-use mwelitunga::{Bounds, Counts, Found, Place, Refusal, Request, SearchError, Verdict};
+use mwelitunga::{
+    Bounds, Counts, Dependence, Found, Operation, Place, Refusal, Request, SearchError, Use,
+    Verdict,
+};
 use plain::file::Loop;
-use plain::{bounds, legality, search, verifier};
+use plain::{bounds, file, legality, search, verifier};
 
 pub fn refusal(plain: plain::Refusal) -> Refusal {
     Refusal {
@@ -16,6 +19,34 @@ pub fn counts(code: &Loop) -> Counts {
         operations: code.operations.len(),
         uses: code.operations.iter().map(|op| op.uses.len()).sum(),
         dependences: code.dependences.len(),
+    }
+}
+
+pub fn described(plain: &Loop) -> mwelitunga::Loop {
+    let operations = plain.operations.iter();
+    let dependences = plain.dependences.iter();
+    mwelitunga::Loop {
+        operations: operations
+            .map(|op| Operation {
+                latency: op.latency.into(),
+                uses: op.uses.iter().map(used).collect(),
+            })
+            .collect(),
+        dependences: dependences
+            .map(|d| Dependence {
+                from: d.from,
+                to: d.to,
+                delay: d.delay,
+                distance: d.distance,
+            })
+            .collect(),
+    }
+}
+
+fn used(plain: &file::Use) -> Use {
+    Use {
+        slot: plain.slot.into(),
+        duration: plain.duration.into(),
     }
 }
 

@@ -1,7 +1,8 @@
-//! Random cases that are the same in every run: numbers, loops, damaged files and lists of calls.
+//! Random cases that are the same in every run: numbers, loops, damaged files, lists of a loop's numbers and lists of calls.
 
 pub mod calls;
 pub mod damage;
+pub mod lists;
 pub mod loops;
 
 use std::env;
