@@ -21,12 +21,14 @@ pub fn write_lists(
     check_dependences(ops.len() / 2, deps)?;
     let length = HEAD + ops.len() + uses.len() + deps.len();
     check(buffer.len() >= length, 20, buffer.len())?;
-    let (first, rest) = buffer.split_at_mut(HEAD);
-    first.copy_from_slice(&head([ops.len(), uses.len(), deps.len()]));
-    let numbers = ops.iter().chain(uses).chain(deps);
-    for (byte, &number) in rest.iter_mut().zip(numbers) {
-        // Below 0 by two's complement.
-        *byte = number as u8;
+    buffer[..HEAD].copy_from_slice(&head([ops.len(), uses.len(), deps.len()]));
+    let mut at = HEAD;
+    for numbers in [ops, uses, deps] {
+        for (byte, &number) in buffer[at..].iter_mut().zip(numbers) {
+            // Below 0 by two's complement.
+            *byte = number as u8;
+        }
+        at += numbers.len();
     }
     Ok(length)
 }

@@ -1,10 +1,9 @@
 -- From what the parts of the writer say to what it ensures: a check that refuses, too little room, and the bytes of the file in the buffer. Assumes nothing.
-use mathlib.Core.Path.{_≡_, refl, sym, ap, ap₂, _∙_}
+use mathlib.Core.Path.{_≡_, sym, ap, _∙_}
 use mathlib.Core.List.{List, [], _∷_, _++_, map}
 use mathlib.Core.Option.{Option, none, some}
 use Prim.Native.Nat.{ℕ, _+_, _≤_}
 use native.Mathlib.Nat.{zero-add}
-use native.Mathlib.Omega.{arith}
 use borrow.Author.Tests.{le-ltb}
 use lib.ListN.{length, drop, length-map}
 use Rattle.model.specs.Refusals.{Refusal, lent, firstRefusal, Answer, answered, refused, settled}

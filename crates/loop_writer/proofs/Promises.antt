@@ -1,18 +1,17 @@
 -- What `write` and `read` promise together. Assumes nothing.
-use mathlib.Core.Path.{_≡_, refl, sym, ap, ap₂, _∙_}
+use mathlib.Core.Path.{_≡_, refl, ap, ap₂, _∙_}
 use mathlib.Core.List.{List}
 use Prim.Native.Nat.{ℕ}
 use native.Mathlib.Omega.{arith}
 use lib.ListN.{length, take}
 use Rattle.model.specs.Refusals.{Answer, answered, refused}
-use Rattle.model.specs.Loop.{Loop, size, allUses}
 use Rattle.model.specs.File.{readFile}
-use Rattle.model.specs.Writer.{Fields, loopFrom, writeFile, bufferAfter}
+use Rattle.model.specs.Writer.{writeFile, bufferAfter}
 use Rattle.model.proofs.Given.{given-counts}
 use Rattle.model.proofs.Writer.{written-passes, writes-read, gives-back, buffer-file}
 use Rattle.loop_file.specs.Read.{Counts, counted}
-use Rattle.loop_writer.specs.Answer.{writtenOf, bytesIn, Writes}
-use Rattle.loop_writer.specs.Promises.{countsOf, ReadBack, WrittenBack}
+use Rattle.loop_writer.specs.Answer.{writtenOf, bytesIn}
+use Rattle.loop_writer.specs.Promises.{ReadBack, WrittenBack}
 use Rattle.loop_writer.specs.declared.Written.{Written}
 use Rattle.loop_writer.specs.declared.Written.the-variants as written
 

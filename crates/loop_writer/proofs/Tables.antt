@@ -1,5 +1,5 @@
 -- Tables of checks, where a check answers for one table: what a loop over a row of them says turn by turn, and how the tables of the lists join. Assumes nothing.
-use mathlib.Core.Path.{_≡_, refl, sym, ap, _∙_}
+use mathlib.Core.Path.{_≡_, sym, ap, _∙_}
 use mathlib.Core.Bool.{false, _||_}
 use mathlib.Core.List.{List, _++_, flatMap, append-assoc}
 use mathlib.Core.Option.{none, some}

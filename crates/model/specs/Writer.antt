@@ -15,7 +15,7 @@ use Rattle.model.specs.File.{byteAt, Section, useWidth, oper, uses, deps
 
 -- ---- a file by its three bodies
 
--- a number as two bytes, little-endian
+-- a number below 65,536 as two bytes, little-endian
 abbrev pub word : ℕ → List ℕ
 word n = n % 256 ∷ n / 256 ∷ []
 
@@ -23,7 +23,7 @@ word n = n % 256 ∷ n / 256 ∷ []
 abbrev pub entryBytes : Section → (start long : ℕ) → List ℕ
 entryBytes s start long = s .tag ++ word start ++ word long
 
--- version 1, three entries, and the entries of bodies of these lengths
+-- version 1, number of entries 3, and the entries of bodies of these lengths, one behind the other
 abbrev pub headBytes : (oper-long uses-long deps-long : ℕ) → List ℕ
 headBytes a b c = 1 ∷ 3 ∷ entryBytes oper operAt a ++ entryBytes uses (operAt + a) b ++ entryBytes deps (operAt + a + b) c
 
@@ -31,13 +31,13 @@ headBytes a b c = 1 ∷ 3 ∷ entryBytes oper operAt a ++ entryBytes uses (operA
 abbrev pub fileWith : (oper-body uses-body deps-body : List ℕ) → List ℕ
 fileWith xs ys zs = headBytes (length xs) (length ys) (length zs) ++ xs ++ ys ++ zs
 
--- every element is a byte
+-- every element is a byte: so is the list of any slice of bytes
 abbrev pub Bytes : List ℕ → Type 0
 Bytes f = (i : ℕ) → byteAt f i < 256
 
 -- ---- a loop as numbers: the fields of its records, one record after the other, as they stand in the three bodies
 
--- three lists of numbers: any at all, as the writer is given them
+-- three lists of numbers, any at all: what the writer is given (document 02: operations, uses and dependences)
 pub record Fields : Type 0 where
   pub ops : List ℤ
   pub uses : List ℤ
@@ -55,18 +55,18 @@ useFields u = pos (u .slot) ∷ pos (u .duration) ∷ []
 abbrev pub depFields : Dep → List ℤ
 depFields e = pos (e .src) ∷ pos (e .dst) ∷ e .delay ∷ pos (e .distance) ∷ []
 
--- the numbers of a loop
+-- the numbers of a loop: what is given to have it written
 unfoldable pub fieldsOf : Loop → Fields
 fieldsOf l = record { ops = flatMap opFields (l .ops); uses = flatMap useFields (allUses l); deps = flatMap depFields (l .deps) }
 
 -- ---- the file of a loop
 
--- a signed number as a byte, by two's complement
+-- a number as a byte, one below 0 by two's complement; only a number that has a byte (`HasByte`) is written
 abbrev pub byteOf : ℤ → ℕ
 byteOf (pos n) = n
 byteOf (negsuc n) = 255 - n
 
--- a number that has a byte of its own: from -128 to 255
+-- a number that has a byte: from -128 to 255
 pub record HasByte (z : ℤ) : Type 0 where
   pub low : negsuc 127 ≤ℤ z
   pub high : z ≤ℤ pos 255
@@ -93,15 +93,15 @@ AtOnce l = (o j : ℕ) → useAt (opAt l o) j .offset ≡ 0
 abbrev pub fieldAt : List ℤ → ℕ → ℤ
 fieldAt xs i = getD xs i (pos 0)
 
--- the number of operations, of uses and of dependences: the whole records
+-- the number of whole operations
 abbrev pub opTotal : Fields → ℕ
 opTotal d = length (d .ops) / oper .width
 
--- of uses
+-- of whole uses
 abbrev pub useTotal : Fields → ℕ
 useTotal d = length (d .uses) / uses .width
 
--- of dependences
+-- of whole dependences
 abbrev pub depTotal : Fields → ℕ
 depTotal d = length (d .deps) / deps .width
 

@@ -1,5 +1,5 @@
 -- `write` meets its contract: a refusal is passed on, and else head and bodies are stored one behind the other. Assumes nothing.
-use mathlib.Core.Path.{_≡_, refl}
+use mathlib.Core.Path.{_≡_}
 use mathlib.Core.List.{_++_, map}
 use mathlib.Core.Option.{none}
 use Prim.Native.Nat.{_+_, _≤_}

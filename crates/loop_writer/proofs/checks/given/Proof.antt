@@ -1,17 +1,15 @@
 -- `checks::given` meets its contract: part by part, a refusal is the whole table's, and else the rest decides. Assumes nothing.
-use mathlib.Core.Path.{_≡_, refl, sym, ap, _∙_}
-use mathlib.Core.List.{List, _++_}
-use mathlib.Core.Option.{none}
-use Prim.Native.Nat.{ℕ, _*_, _/_, _≤_}
+use mathlib.Core.Path.{_≡_, sym, ap, _∙_}
+use Prim.Native.Nat.{ℕ, _*_, _≤_}
 use native.Mathlib.Omega.{arith}
 use lib.ListN.{length}
-use Rattle.model.specs.Refusals.{Check, firstRefusal}
+use Rattle.model.specs.Refusals.{firstRefusal}
 use Rattle.model.specs.File.{useWidth, oper, deps, sizeChecks}
 use Rattle.model.specs.Writer.{Fields, opTotal, firstGiven, usesGivenChecks, givenChecks}
 use Rattle.refusals.specs.Checked.{refusalOf}
 use Rattle.refusals.proofs.Tables.{refused-first, rest-decides}
 use Rattle.loop_writer.specs.Answer.{fieldsBy}
-use Rattle.loop_writer.proofs.Tables.{fine-passes, opsTable, usesTable, depsTable, afterOps, afterSizes, afterOpSize, whole, number-refused, number-right, size-range}
+use Rattle.loop_writer.proofs.Tables.{fine-passes, opsTable, depsTable, afterOps, afterSizes, afterOpSize, whole, number-refused, number-right, size-range}
 use Rattle.loop_writer.proofs.checks.given.Statement.{statement}
 use Rattle.loop_writer.proofs.checks.given.Tie as tie
 

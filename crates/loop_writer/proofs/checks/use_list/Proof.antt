@@ -1,5 +1,5 @@
 -- `checks::use_list` meets its contract. The loop's invariant: the checks of the uses of the operations passed refuse nothing, and `first` is the number of those uses. Assumes nothing.
-use mathlib.Core.Path.{_≡_, sym, ap, ap₂, _∙_}
+use mathlib.Core.Path.{_≡_, sym, ap₂, _∙_}
 use mathlib.Core.List.{List, flatMap}
 use mathlib.Core.Option.{none}
 use Prim.Native.Nat.{ℕ, _+_, _-_, _*_, _≤_}
