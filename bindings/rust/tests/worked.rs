@@ -146,8 +146,8 @@ fn loop_a_is_written_byte_by_byte() {
     assert_eq!(mwelitunga::Loop::from_file(&bytes), Ok(described));
 }
 
-/// What the writer answers for the first three operations, two uses and one dependence of loop A with some numbers after
-/// them, in a buffer of some bytes.
+/// What the writer answers for the operations of loop A, its first two uses and its first dependence, each with some numbers
+/// after them, in a buffer of some bytes.
 fn written(more: [&[i32]; 3], room: usize) -> Result<usize, (usize, u64)> {
     let [ops, uses, deps] = more;
     let mut buffer = vec![0; room];

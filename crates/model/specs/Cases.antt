@@ -180,7 +180,7 @@ starred =
 
 -- ---- the writer
 
--- the first three operations, two uses and one dependence of loop A, and these numbers after them
+-- the operations of loop A, its first two uses and its first dependence, each with these numbers after them
 abbrev pub numbersA : (ops uses deps : List ℤ) → Fields
 numbersA ops uses deps = record {
   ops = pos 2 ∷ pos 1 ∷ pos 3 ∷ pos 1 ∷ pos 1 ∷ pos 1 ∷ ops;
