@@ -2,25 +2,21 @@
 use mathlib.Core.Path.{_≡_, refl, ap}
 use mathlib.Core.List.{List, flatMap}
 use mathlib.Core.Option.{none, some}
-use Prim.Native.Nat.{ℕ, zero, suc, _+_, _*_, _≤_, _<_}
+use Prim.Native.Nat.{ℕ, _+_, _*_, _≤_, _<_}
 use native.Mathlib.Omega.{arith}
 use native.Mathlib.Numerals.{add-one}
-use borrow.Author.Tests.{ltb-false}
 use Rattle.model.specs.Lists.{upFrom}
 use Rattle.model.specs.Refusals.{Refusal, Check, firstRefusal, answered, refused, settle}
-use Rattle.model.specs.File.{byteAt, opRecord, usesOf, firstUse, opChecks, opChecksAt}
-use Rattle.model.proofs.Checks.{row-refused, passes-head, passes-tail, passes-each}
+use Rattle.model.specs.File.{opRecord, usesOf, firstUse, opChecksAt}
+use Rattle.model.proofs.Sums.{total-few}
+use Rattle.model.proofs.Checks.{row-refused, passes-each}
+use Rattle.model.proofs.File.{op-few}
 use Rattle.loop_file.specs.declared.reader.Part.{Part}
 use Rattle.loop_file.specs.declared.reader.Part.the-variants.{Fine, Refused}
 use Rattle.loop_file.specs.Read.{partOf, opsTable}
 use Rattle.loop_file.proofs.CheckAnswers.{fine-none, refused-some, none-answered, some-refused}
 
 -- ---- a row of tables, which a loop goes through one number after the other
-
--- no table, no refusal
-pub row-start : (t : ℕ → List Check) → firstRefusal (flatMap t (upFrom 0 0)) ≡ none
-unfolding upFrom flatMap firstRefusal
-row-start t = refl
 
 -- a row is refused as its first table that is not passed
 pub refused-at : (t : ℕ → List Check) (k n a : ℕ) {r : Refusal} → k < n → firstRefusal (flatMap t (upFrom 0 k)) ≡ none → firstRefusal (t k) ≡ some r
@@ -40,26 +36,14 @@ pub part-refused : (t : ℕ → List Check) (k n : ℕ) {p : Part} {x y : ℕ} �
     → p ≡ Refused x y → partOf p ≡ settle (t k) 0 → partOf p ≡ settle (flatMap t (upFrom 0 n)) 0
 part-refused t k n l q e h = some-refused 0 (row-refused t k n _ l q (refused-some 0 h (ap partOf e))) (ap partOf e)
 
--- the uses before the first operation, and before one operation more
-pub first-use-none : (f : List ℕ) → firstUse f 0 ≡ 0
-unfolding firstUse
-first-use-none f = refl
-
+-- the uses before one operation more
 pub first-use-next : (f : List ℕ) (o : ℕ) → firstUse f (o + 1) ≡ firstUse f o + usesOf f o
 unfolding firstUse
 first-use-next f o = rw (add-one o)
 
--- ---- the number of uses
-
--- an operation that passes its table has at most four uses
-op-few : (f : List ℕ) (at : ℕ) → firstRefusal (opChecksAt f at) ≡ none → byteAt f (at + 1) ≤ 4
-unfolding opChecks
-op-few f at e = ltb-false 4 (byteAt f (at + 1)) (passes-head _ _ (passes-tail _ _ e))
-
--- so all have at most four each
+-- operations that pass their tables have at most four uses each
 pub uses-few : (f : List ℕ) (n : ℕ) → firstRefusal (opsTable f n) ≡ none → firstUse f n ≤ 4 * n
-uses-few f n e = go n (λ o l. op-few f (opRecord o) (passes-each (λ o. opChecksAt f (opRecord o)) 0 n o e (omega arith) (omega arith)))
-  where
-    go : (k : ℕ) → ((o : ℕ) → o < k → usesOf f o ≤ 4) → firstUse f k ≤ 4 * k
-    go zero h = omega (arith, first-use-none f)
-    go (suc k) h = omega (arith, go k (λ o l. h o (omega arith)), h k (omega arith), first-use-next f k, ap (firstUse f) (add-one k))
+unfolding firstUse
+uses-few f n e =
+    total-few (firstUse f) (usesOf f) (λ k. refl) 4 n refl
+    (λ o l. op-few _ _ _ _ (passes-each (λ o. opChecksAt f (opRecord o)) 0 n o e (omega arith) (omega arith)))

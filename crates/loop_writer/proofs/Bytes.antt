@@ -36,8 +36,8 @@ low-byte (negsuc n) h e = let z : _≡_ {A = ℕ} 0 1 = cc in absurd (omega arit
 pub byte-fits : (z : ℤ) (b : ℕ) → z ≡ pos b → b < 256 → SFits w32 z
 byte-fits z b e h = rw e (is-fits w32 (is-pos b) (omega arith) (omega arith))
 
-pub cast-fits : (z : ℤ) (b : ℕ) → z ≡ pos b → b < 256 → T (nonNeg (toZ w32 (ofZ w32 z))) × Fits w8 (natAbs (toZ w32 (ofZ w32 z)))
-cast-fits z b e h = rw (toZ-ofZ w32 z (byte-fits z b e h), e) (tt, omega arith)
+pub byte-cast : (z : ℤ) (b : ℕ) → z ≡ pos b → b < 256 → T (nonNeg (toZ w32 (ofZ w32 z))) × Fits w8 (natAbs (toZ w32 (ofZ w32 z)))
+byte-cast z b e h = rw (toZ-ofZ w32 z (byte-fits z b e h), e) (tt, omega arith)
 
-pub cast-is : (z : ℤ) (b : ℕ) → z ≡ pos b → b < 256 → natAbs (toZ w32 (ofZ w32 z)) ≡ b
-cast-is z b e h = ap natAbs (toZ-ofZ w32 z (byte-fits z b e h) ∙ e)
+pub byte-value : (z : ℤ) (b : ℕ) → z ≡ pos b → b < 256 → natAbs (toZ w32 (ofZ w32 z)) ≡ b
+byte-value z b e h = ap natAbs (toZ-ofZ w32 z (byte-fits z b e h) ∙ e)

@@ -9,7 +9,7 @@ use Rattle.model.specs.File.{readFile}
 use Rattle.model.specs.Writer.{writeFile, bufferAfter}
 use Rattle.model.proofs.Given.{given-counts}
 use Rattle.model.proofs.Writer.{written-passes, writes-read, gives-back, buffer-file}
-use Rattle.loop_file.specs.Read.{Counts, counted}
+use Rattle.loop_file.specs.Read.{counted}
 use Rattle.loop_writer.specs.Answer.{writtenOf, bytesIn}
 use Rattle.loop_writer.specs.Promises.{ReadBack, WrittenBack}
 use Rattle.loop_writer.specs.declared.Written.{Written}
@@ -20,17 +20,13 @@ file-said : (a : Answer (List ℕ)) {n : ℕ} → answered n ≡ bytesIn a → (
 file-said (answered f) e = (f, refl, cc)
 file-said (refused r) e = let z : _≡_ {A = ℕ} 0 1 = cc in absurd (omega arith)
 
--- the counts of the loop that the lists describe are those of the lists
-counts-same : {a b c x y z : ℕ} → a ≡ x → b ≡ y → c ≡ z → _≡_ {A = Answer Counts} (answered (record { ops = a; uses = b; deps = c })) (answered (record { ops = x; uses = y; deps = z }))
-counts-same p q r = rw (p, q, r)
-
 pub read-back : ReadBack
 read-back d before after n r w e =
     let s = file-said (writeFile d (length before)) (w .says) in
     let f : List ℕ = s .0 in
     let left : take n after ≡ f = ap₂ take (s .2) (w .leaves ∙ ap (λ (a : Answer (List ℕ)). bufferAfter a before) (s .1)) ∙ buffer-file f before in
     let c = given-counts d (written-passes d (length before) f (s .1) .0) in
-    e ∙ ap (λ (g : List ℕ). counted (readFile g)) left ∙ ap counted (writes-read d (length before) f (s .1)) ∙ counts-same (c .0) (c .1) (c .2)
+    e ∙ ap (λ (g : List ℕ). counted (readFile g)) left ∙ ap counted (writes-read d (length before) f (s .1)) ∙ rw (c .0, c .1, c .2)
 
 -- what says a number of bytes is that number
 number-said : (w : Written) (n : ℕ) → writtenOf w ≡ answered n → w ≡ written.Bytes n

@@ -1,9 +1,9 @@
--- Tables of checks, where a check answers for one table: what a loop over a row of them says turn by turn, and how the tables of the lists join. Assumes nothing.
+-- How the tables of the lists join to the table of all, part by part. Assumes nothing.
 use mathlib.Core.Path.{_≡_, sym, ap, _∙_}
 use mathlib.Core.Bool.{false, _||_}
 use mathlib.Core.List.{List, _++_, flatMap, append-assoc}
 use mathlib.Core.Option.{none, some}
-use Prim.Native.Nat.{ℕ, _*_, _/_, _≤_, _<_}
+use Prim.Native.Nat.{ℕ, _*_, _/_, _≤_}
 use borrow.Author.Tests.{eq-eqb, ne-eqb, ltb-false}
 use lib.Dec.{ltb}
 use lib.ListN.{length}
@@ -12,25 +12,7 @@ use Rattle.model.specs.Refusals.{Check, firstRefusal}
 use Rattle.model.specs.File.{Section, useWidth, oper, deps, sizeChecks}
 use Rattle.model.specs.Writer.{Fields, opTotal, useTotal, depTotal, usesGiven, firstGiven, opGivenChecks, opUsesGivenChecks, usesGivenChecks, depGivenChecks, givenChecks}
 use Rattle.model.proofs.Lists.{or-false-left, or-false-right}
-use Rattle.model.proofs.Checks.{passes-head, passes-tail, row-refused}
-use Rattle.refusals.specs.Checked.{refusalOf}
-use Rattle.refusals.specs.declared.Checked.{Checked}
-use Rattle.refusals.specs.declared.Checked.the-variants as checked
-
--- a check that is fine: its table is passed
-pub fine-passes : (cs : List Check) {c : Checked} → c ≡ checked.Fine → refusalOf c ≡ firstRefusal cs → firstRefusal cs ≡ none
-fine-passes cs e h = sym h ∙ ap refusalOf e
-
--- a check that is refused after tables that are passed: it is what the row of tables comes to
-pub row-refused-as : (t : ℕ → List Check) (k n : ℕ) {c : Checked} {x y : ℕ} → k < n → firstRefusal (flatMap t (upFrom 0 k)) ≡ none
-    → c ≡ checked.Refused x y → refusalOf c ≡ firstRefusal (t k) → refusalOf c ≡ firstRefusal (flatMap t (upFrom 0 n))
-row-refused-as t k n l p e h = ap refusalOf e ∙ sym (row-refused t k n _ l p (sym h ∙ ap refusalOf e))
-
--- a row whose tables are all passed
-pub row-passed : (t : ℕ → List Check) (k n : ℕ) → k ≡ n → firstRefusal (flatMap t (upFrom 0 k)) ≡ none → refusalOf checked.Fine ≡ firstRefusal (flatMap t (upFrom 0 n))
-row-passed t k n e p = sym (rw e at p)
-
--- ---- the table of all lists, part by part
+use Rattle.model.proofs.Checks.{passes-head, passes-tail}
 
 module _ (d : Fields) where
   -- the tables of the operations, of the uses, and of the dependences

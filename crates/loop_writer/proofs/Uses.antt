@@ -9,13 +9,13 @@ use Rattle.model.specs.File.{useWidth}
 use Rattle.model.specs.Writer.{fieldAt, usesGiven, firstGiven, slotBefore}
 
 -- the uses before the first operation, and before one operation more
-pub first-none : (ops : List ℤ) → 0 ≡ firstGiven ops 0
+pub given-none : (ops : List ℤ) → 0 ≡ firstGiven ops 0
 unfolding firstGiven
-first-none ops = refl
+given-none ops = refl
 
-pub first-next : (ops : List ℤ) (o : ℕ) → firstGiven ops (o + 1) ≡ firstGiven ops o + usesGiven ops o
+pub given-next : (ops : List ℤ) (o : ℕ) → firstGiven ops (o + 1) ≡ firstGiven ops o + usesGiven ops o
 unfolding firstGiven
-first-next ops o = rw (add-one o)
+given-next ops o = rw (add-one o)
 
 -- the first use has to be above no slot, and one use more above that of the one before
 pub slot-none : (us : List ℤ) (u : ℕ) → 0 ≡ slotBefore us u 0

@@ -2,12 +2,7 @@
 use mathlib.Core.List.{List, _++_}
 use Prim.Native.Nat.{ℕ, _+_}
 use lib.ListN.{length, take, drop}
-use Rattle.model.specs.File.{Section}
 
 -- these bytes stored from `at` on, and all else as it was
 abbrev pub stored : List ℕ → ℕ → List ℕ → List ℕ
 stored old at bytes = take at old ++ bytes ++ drop (at + length bytes) old
-
--- a section of which only the tag matters
-abbrev pub tagged : List ℕ → Section
-tagged tag = record { entry = 0; tag = tag; width = 0; least = 0; most = 0 }

@@ -5,7 +5,7 @@ ghost use Prim.Native.Nat.{_+_, _<_, _≤_};
 ghost use lib.ListN.{length};
 ghost use Rattle.model.specs.Writer as model;
 ghost use Rattle.loop_file.specs.Read.{fourOf};
-ghost use Rattle.loop_writer.specs.Buffer.{stored, tagged};
+ghost use Rattle.loop_writer.specs.Buffer.{stored};
 
 // A number as a byte, by two's complement.
 fn byte_of(z: i32) -> u8
@@ -39,7 +39,7 @@ fn word(buffer: &mut [u8], at: usize, n: usize)
 // A section's entry in the contents: tag, offset, length.
 fn entry(buffer: &mut [u8], at: usize, tag: &[u8; 4], start: usize, long: usize)
     requires { ⌜ (at + 8 ≤ length (now buffer)) × (start < 65536) × (long < 65536) ⌝ }
-    ensures { λ _. ⌜ now (buffer .exit) ≡ stored (now (buffer .entry)) at (model.entryBytes (tagged (fourOf (now (tag .entry)))) start long) ⌝ }
+    ensures { λ _. ⌜ now (buffer .exit) ≡ stored (now (buffer .entry)) at (model.entryBytes (fourOf (now (tag .entry))) start long) ⌝ }
 {
     buffer[at] = tag[0];
     buffer[at + 1] = tag[1];

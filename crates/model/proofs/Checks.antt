@@ -11,7 +11,7 @@ use native.Mathlib.Omega.{arith}
 use borrow.Author.Tests.{ltb-false, lt-ltb, le-ltb, lt-leb, eq-eqb}
 use lib.Dec.{eqb, ltb}
 use Rattle.model.specs.Lists.{upFrom}
-use Rattle.model.specs.Refusals.{Refusal, Check, ifFound, outside, firstRefusal}
+use Rattle.model.specs.Refusals.{Refusal, Check, ifFound, outside, firstRefusal, answered, settled}
 use Rattle.model.proofs.Lists.{or-false-left, or-false-right, or-both, upFrom-split, flatMap-append, flat-next}
 
 -- ---- tables of checks
@@ -114,6 +114,11 @@ pub ruleset to-pass = (pass-none, pass-cons, pass-append, same-passes, or-both, 
 
 -- ---- tables of checks over a row, one number after the other
 
+-- no table, no refusal
+pub row-start : (t : ℕ → List Check) → firstRefusal (flatMap t (upFrom 0 0)) ≡ none
+unfolding upFrom flatMap
+row-start t = pass-none
+
 -- what passes the tables of a row and the next table passes the row with that one
 pub row-next : (t : ℕ → List Check) (n : ℕ) → firstRefusal (flatMap t (upFrom 0 n)) ≡ none → firstRefusal (t n) ≡ none → firstRefusal (flatMap t (upFrom 0 (n + 1))) ≡ none
 row-next t n p q = rw (flat-next t n, refusal-append (flatMap t (upFrom 0 n)) (t n) p) q
@@ -128,6 +133,13 @@ row-refused t k n r l p q =
     ∙ ap firstRefusal (flatMap-append t (upFrom 0 (k + 1)) (upFrom (0 + (k + 1)) (n - (k + 1))))
     ∙ refusal-early (flatMap t (upFrom 0 (k + 1))) (flatMap t (upFrom (0 + (k + 1)) (n - (k + 1)))) r
     (rw (flat-next t k, refusal-append (flatMap t (upFrom 0 k)) (t k) p) q)
+
+-- ---- what a table settles
+
+-- an answer that is no refusal: nothing refuses, and it is the answer that was to be given
+pub settled-answer : {A : Type 0} (o : Option Refusal) (a b : A) → settled o a ≡ answered b → (o ≡ none) × (a ≡ b)
+settled-answer none a b e = (refl, cc)
+settled-answer (some r) a b e = let z : _≡_ {A = ℕ} 0 1 = cc in absurd (omega arith)
 
 -- ---- a check that fails where something is found
 

@@ -1,23 +1,24 @@
 -- What an accepted file's loop obeys, and how the loop is read off the bytes. Assumes nothing.
 use mathlib.Core.Path.{_≡_, refl, sym, ap, ap₂, _∙_, subst}
-use mathlib.Core.Bool.{true}
+use mathlib.Core.Bool.{true, false}
 use mathlib.Core.List.{List, map, flatMap}
-use mathlib.Core.Logic.{_⊎_, inl, inr}
 use mathlib.Core.Option.{none}
 use Prim.Native.Nat.{ℕ, zero, suc, _+_, _*_, _%_, _≤_, _<_}
-use native.Mathlib.Nat.{zero-add, eq-or-lt-of-le}
+use native.Mathlib.Nat.{zero-add}
 use native.Mathlib.Omega.{arith}
 use borrow.Author.Tests.{ltb-false, leb-false, eqb-true, not-false}
 use lib.Dec.{T}
-use lib.IntN.{ℤ}
+use lib.IntN.{ℤ, pos, negsuc}
 use lib.ListN.{length, getD}
 use lib.Signed.{leZ, leZ-yes, _≤ℤ_}
 use Rattle.model.specs.Lists.{upFrom, sumOf}
+use Rattle.model.specs.Integers.{plus}
 use Rattle.model.specs.Refusals.{firstRefusal}
 use Rattle.model.specs.Loop.{Op, noUse, noOp, allUses, firstUseOf, noDep, size, opAt, depAt, useAt, UseOk, OpOk, DepOk, LoopOk}
-use Rattle.model.specs.File.{byteAt, Section, useWidth, longest, oper, uses, deps, lengthOf, recordsOf, endAt, opCount, depCount, opRecord, usesOf, firstUse, useRecord, depRecord, useIn, opIn, depIn, loopOf, lengthChecks, headChecks, entryChecks, contentsChecks, opChecks, opChecksAt, slotBelow, useChecks, useChecksAt, opUseChecks, usesChecks, depChecks, depChecksAt, fileChecks, Accepted}
-use Rattle.model.proofs.Lists.{length-tabulate, getD-tabulate, and-left, and-right, or-false-left, or-false-right}
+use Rattle.model.specs.File.{byteAt, Section, useWidth, longest, oper, uses, deps, lengthOf, recordsOf, endAt, opCount, depCount, opRecord, usesOf, firstUse, useRecord, depRecord, useIn, opIn, depIn, loopOf, notUpTo, notBetween, lengthChecks, headChecks, entryChecks, contentsChecks, opChecks, opChecksAt, slotBelow, useChecks, useChecksAt, opUseChecks, usesChecks, depChecks, depChecksAt, fileChecks, Accepted}
+use Rattle.model.proofs.Lists.{true-false, length-tabulate, getD-tabulate, and-left, and-right, or-false-left, or-false-right}
 use Rattle.model.proofs.Rows.{row-join, flat-map, flat-grows}
+use Rattle.model.proofs.Sums.{total-le}
 use Rattle.model.proofs.Loop.{first-next}
 use Rattle.model.proofs.Checks.{passes-left, passes-right, passes-head, passes-tail, passes-each}
 
@@ -86,6 +87,25 @@ pub record Layout (f : List ℕ) : Type 0 where
 -- from a table that is passed to what its checks say
 pub ruleset passing = (passes-left, passes-right, passes-head, passes-tail, or-false-left, or-false-right, not-false, eqb-true, ltb-false, leb-false)
 
+-- a number that is one of 0 .. most, and one that is of below + 1 .. most
+up-to-most : (most : ℕ) (z : ℤ) → notUpTo most z ≡ false → plus z ≤ most
+up-to-most most (pos n) e = ltb-false most n e
+up-to-most most (negsuc n) e = true-false e
+
+between-most : (below most : ℕ) (z : ℤ) → notBetween below most z ≡ false → plus z ≤ most
+between-most below most (pos n) e = search passing
+between-most below most (negsuc n) e = true-false e
+
+-- an operation that passes its checks has at most four uses, whatever the details are
+pub op-few : (latency uses : ℤ) (a b : ℕ) → firstRefusal (opChecks latency uses a b) ≡ none → plus uses ≤ 4
+unfolding opChecks
+op-few latency uses a b p = up-to-most 4 uses (search passing)
+
+-- and a use a slot of at most 24
+pub slot-few : (below : ℕ) (slot duration : ℤ) (a b : ℕ) → firstRefusal (useChecks below slot duration a b) ≡ none → plus slot ≤ 24
+unfolding useChecks
+slot-few below slot duration a b p = between-most below 24 slot (search passing)
+
 -- the tables of an accepted file, each passed
 pub record Passed (f : List ℕ) : Type 0 where
   pub of-length : firstRefusal (lengthChecks f) ≡ none
@@ -152,12 +172,7 @@ layout f a =
 -- the uses of an operation stand before those of the operations after it
 pub first-use-le : (f : List ℕ) (o n : ℕ) → o < n → firstUse f o + usesOf f o ≤ firstUse f n
 unfolding firstUse
-first-use-le f o zero l = absurd (omega arith)
-first-use-le f o (suc n) l = pick (eq-or-lt-of-le l) (first-use-le f o n)
-  where
-    pick : (suc o ≡ suc n) ⊎ (suc o < suc n) → (o < n → firstUse f o + usesOf f o ≤ firstUse f n) → firstUse f o + usesOf f o ≤ firstUse f n + usesOf f n
-    pick (inl q) ih = let e : o ≡ n = omega arith in rw e (omega arith)
-    pick (inr q) ih = let h : firstUse f o + usesOf f o ≤ firstUse f n = ih (omega arith) in omega arith
+first-use-le f o n l = total-le (firstUse f) (usesOf f) (λ k. refl) o n l
 
 -- the record of an operation lies inside the file
 pub op-inside : (f : List ℕ) (o : ℕ) → Layout f → o < opCount f → opRecord o + 1 < length f

@@ -2,13 +2,12 @@
 use mathlib.Core.Path.{_≡_, refl, sym, ap, _∙_}
 use mathlib.Core.Bool.{Bool, true, false, not, _&&_}
 use mathlib.Core.List.{List, _++_, map, flatMap}
-use mathlib.Core.Logic.{_⊎_, inl, inr}
 use mathlib.Core.Option.{none}
-use Prim.Native.Nat.{ℕ, zero, suc, _+_, _-_, _*_, _/_, _%_, _≤_, _<_}
-use native.Mathlib.Nat.{zero-add, eq-or-lt-of-le}
+use Prim.Native.Nat.{ℕ, _+_, _-_, _*_, _/_, _%_, _≤_, _<_}
+use native.Mathlib.Nat.{zero-add}
 use native.Mathlib.Numerals.{add-one, add-two, add-three}
 use native.Mathlib.Omega.{arith}
-use borrow.Author.Tests.{ltb-false, leb-true}
+use borrow.Author.Tests.{leb-true}
 use lib.IntN.{ℤ, pos, negsuc}
 use lib.ListN.{length}
 use lib.Signed.{leZ}
@@ -22,7 +21,8 @@ use Rattle.model.proofs.Lists.{true-false, and-left, length-tabulate}
 use Rattle.model.proofs.Rows.{row-is, flat-map, flat-flat, flat-grows}
 use Rattle.model.proofs.Checks.{passes-each, to-pass}
 use Rattle.model.proofs.Signed.{byte-low, byte-high}
-use Rattle.model.proofs.File.{passing}
+use Rattle.model.proofs.Sums.{total-le, total-few}
+use Rattle.model.proofs.File.{passing, op-few}
 use Rattle.model.proofs.Records.{records-more, records-list, length-records}
 
 -- ---- one number
@@ -35,15 +35,6 @@ Natural z = pos (plus z) ≡ z
 natural : (fails : ℤ → Bool) → ((n : ℕ) → fails (negsuc n) ≡ true) → (z : ℤ) → fails z ≡ false → Natural z
 natural fails h (pos n) e = refl
 natural fails h (negsuc n) e = true-false (sym (h n) ∙ e)
-
--- and this is how large it is
-up-to : (most : ℕ) (z : ℤ) → notUpTo most z ≡ false → plus z ≤ most
-up-to most (pos n) e = ltb-false most n e
-up-to most (negsuc n) e = true-false e
-
-between : (below most : ℕ) (z : ℤ) → notBetween below most z ≡ false → plus z ≤ most
-between below most (pos n) e = search passing
-between below most (negsuc n) e = true-false e
 
 -- a delay in range comes back from its byte, as the reader reads it
 delay-back : (z : ℤ) → not (leZ (negsuc 63) z && leZ z (pos 64)) ≡ false → signedByte (byteOf z) ≡ z
@@ -63,11 +54,6 @@ op-numbers xs o p = (
   natural (notUpTo 4) (λ n. refl) (fieldAt xs (2 * o + 1)) (search passing),
 )
 
--- it has at most four uses
-pub op-few : (xs : List ℤ) (o : ℕ) → firstRefusal (opGivenChecks xs o) ≡ none → usesGiven xs o ≤ 4
-unfolding opChecks
-op-few xs o p = up-to 4 (fieldAt xs (2 * o + 1)) (search passing)
-
 -- of a use
 pub use-numbers : (xs : List ℤ) (below u : ℕ) → firstRefusal (useGivenChecks xs below u) ≡ none → Natural (fieldAt xs (useWidth * u)) × Natural (fieldAt xs (useWidth * u + 1))
 unfolding useChecks
@@ -75,11 +61,6 @@ use-numbers xs below u p = (
   natural (notBetween below 24) (λ n. refl) (fieldAt xs (useWidth * u)) (search passing),
   natural (notBetween 0 16) (λ n. refl) (fieldAt xs (useWidth * u + 1)) (search passing),
 )
-
--- whose slot is at most 24
-pub slot-few : (xs : List ℤ) (below u : ℕ) → firstRefusal (useGivenChecks xs below u) ≡ none → plus (fieldAt xs (useWidth * u)) ≤ 24
-unfolding useChecks
-slot-few xs below u p = between below 24 (fieldAt xs (useWidth * u)) (search passing)
 
 -- of a dependence, whose delay is read as a signed byte
 pub dep-numbers : (xs : List ℤ) (n e : ℕ) → firstRefusal (depGivenChecks xs n e) ≡ none
@@ -95,12 +76,7 @@ dep-numbers xs n e p = (
 -- the uses of an operation stand before those of the operations after it
 pub first-le : (xs : List ℤ) (o n : ℕ) → o < n → firstGiven xs o + usesGiven xs o ≤ firstGiven xs n
 unfolding firstGiven
-first-le xs o zero l = absurd (omega arith)
-first-le xs o (suc n) l = pick (eq-or-lt-of-le l) (first-le xs o n)
-  where
-    pick : (suc o ≡ suc n) ⊎ (suc o < suc n) → (o < n → firstGiven xs o + usesGiven xs o ≤ firstGiven xs n) → firstGiven xs o + usesGiven xs o ≤ firstGiven xs n + usesGiven xs n
-    pick (inl q) ih = let e : o ≡ n = omega arith in rw e (omega arith)
-    pick (inr q) ih = let h : firstGiven xs o + usesGiven xs o ≤ firstGiven xs n = ih (omega arith) in omega arith
+first-le xs o n l = total-le (firstGiven xs) (usesGiven xs) (λ k. refl) o n l
 
 -- a body of whole records, as many as the section may have, passes
 pub size-passes : (s : Section) (n : ℕ) → n % s .width ≡ 0 → s .least ≤ n / s .width → n / s .width ≤ s .most → firstRefusal (sizeChecks s n) ≡ none
@@ -165,14 +141,13 @@ module _ (d : Fields) (p : firstRefusal (givenChecks d) ≡ none) where
       rw e at (use-numbers (d .uses) _ _ (given .of-use o (u - first d o) l (omega arith)))
 
   -- each operation has at most four uses
-  few-uses : (o : ℕ) → o ≤ opTotal d → first d o ≤ 4 * o
+  few-uses : first d (opTotal d) ≤ 4 * opTotal d
   unfolding firstGiven
-  few-uses zero l = omega arith
-  few-uses (suc o) l = omega (arith, few-uses o (omega arith), op-few (d .ops) o (given .of-op o l))
+  few-uses = total-few (firstGiven (d .ops)) (usesGiven (d .ops)) (λ k. refl) 4 (opTotal d) refl (λ o l. op-few _ _ _ _ (given .of-op o l))
 
   -- so the lists are short
   pub given-few : (length (d .ops) ≤ 128) × (length (d .uses) ≤ 512) × (length (d .deps) ≤ 1024)
-  given-few = let s : Passing d = given in (omega arith, omega (arith, few-uses (opTotal d) (omega arith)), omega arith)
+  given-few = let s : Passing d = given in (omega arith, omega (arith, few-uses), omega arith)
 
   -- ---- they are the numbers of the loop that they describe
 

@@ -1,8 +1,10 @@
--- Laws of sums and of largest numbers. Assumes nothing.
+-- Laws of sums, of running totals and of largest numbers. Assumes nothing.
 use mathlib.Core.Path.{_≡_, refl, sym, ap, ap₂, _∙_}
 use mathlib.Core.Bool.{Bool, cond}
 use mathlib.Core.List.{List, [], _∷_, _++_, flatMap}
+use mathlib.Core.Logic.{_⊎_, inl, inr}
 use Prim.Native.Nat.{ℕ, zero, suc, _+_, _-_, _*_, _≤_, _<_, max}
+use native.Mathlib.Nat.{eq-or-lt-of-le, mul-suc}
 use native.Mathlib.Numerals.{add-one}
 use native.Mathlib.Decide.{ℕ-discrete, decLe}
 use native.Mathlib.Omega.{arith}
@@ -115,3 +117,20 @@ max-one f a (suc (suc n)) some = pick (max-one f (suc a) (suc n) (omega arith)) 
         → (k : ℕ) × (k < a + suc (suc n)) × (max (f a) (maxOf f (upFrom (suc a) (suc n))) ≡ f k)
     pick w (yes m) = (w .0, omega (arith, w .1), omega (arith, w .2))
     pick w (no m) = (a, omega arith, omega arith)
+
+-- ---- a running total: `before n` is the sum of the counts of 0 .. n - 1
+
+module _ (before count : ℕ → ℕ) (next : (n : ℕ) → before (suc n) ≡ before n + count n) where
+  -- what is counted at o stands before what is counted after it
+  pub total-le : (o n : ℕ) → o < n → before o + count o ≤ before n
+  total-le o zero l = absurd (omega arith)
+  total-le o (suc n) l = pick (eq-or-lt-of-le l) (total-le o n)
+    where
+      pick : (suc o ≡ suc n) ⊎ (suc o < suc n) → (o < n → before o + count o ≤ before n) → before o + count o ≤ before (suc n)
+      pick (inl q) ih = let e : o ≡ n = omega arith in rw (e, next n) (omega arith)
+      pick (inr q) ih = let h : before o + count o ≤ before n = ih (omega arith) in rw (next n) (omega arith)
+
+  -- where each count is at most w
+  pub total-few : (w n : ℕ) → before 0 ≡ 0 → ((o : ℕ) → o < n → count o ≤ w) → before n ≤ w * n
+  total-few w zero z h = rw z (omega arith)
+  total-few w (suc n) z h = rw (next n, mul-suc w n) (omega (arith, total-few w n z (λ o l. h o (omega arith)), h n (omega arith)))

@@ -4,7 +4,7 @@ use mathlib.Core.Path.{_≡_, refl, sym, ap, _∙_}
 use mathlib.Core.Bool.{false}
 use mathlib.Core.List.{List, [], _∷_, _++_, map}
 use mathlib.Core.Logic.{_↔_}
-use mathlib.Core.Option.{Option, none, some}
+use mathlib.Core.Option.{none}
 use Prim.Native.Nat.{ℕ, zero, suc, _+_, _/_, _%_, _≤_, _<_}
 use native.Mathlib.Omega.{arith}
 use borrow.Author.Tests.{leb-false, lt-leb}
@@ -13,28 +13,18 @@ use lib.IntN.{ℤ, pos, negsuc}
 use lib.ListN.{length, take, drop, length-append, length-drop, length-map, List·getD-map}
 use lib.Seq.{take-append-seam, drop-append-seam}
 use Rattle.model.specs.Lists.{anyOf}
-use Rattle.model.specs.Refusals.{Refusal, Check, lent, firstRefusal, answered, settled, settle}
+use Rattle.model.specs.Refusals.{lent, firstRefusal, answered}
 use Rattle.model.specs.Loop.{Loop, LoopOk}
 use Rattle.model.specs.File.{loopOf, fileChecks, Accepted, readFile}
 use Rattle.model.specs.Writer.{headBytes, Bytes, Fields, fieldsOf, byteOf, HasByte, HaveBytes, fileBy, fileOf, AtOnce, fieldAt, loopFrom, givenChecks, writeChecks, writeFile, bufferAfter}
 use Rattle.model.proofs.Lists.{any-each}
-use Rattle.model.proofs.Checks.{to-pass}
+use Rattle.model.proofs.Checks.{to-pass, settled-answer}
 use Rattle.model.proofs.Signed.{plus-le}
 use Rattle.model.proofs.File.{passing, accepted-ok, at-once}
 use Rattle.model.proofs.Written.{file-back}
 use Rattle.model.proofs.Given.{fields-back, given-few}
 use Rattle.model.proofs.GivenFile.{by-accepted, by-loop, given-ok, given-once}
 use Rattle.model.proofs.Fields.{loop-passes, loop-back, passes-bytes}
-
--- ---- answers
-
--- an answer that is no refusal is the one given, and the table was passed
-pass-settle : {A : Type 0} (cs : List Check) (a b : A) → settle cs a ≡ answered b → (firstRefusal cs ≡ none) × (a ≡ b)
-pass-settle {A} cs a b e = pick (firstRefusal cs) refl e
-  where
-    pick : (o : Option Refusal) → firstRefusal cs ≡ o → settled o a ≡ answered b → (firstRefusal cs ≡ none) × (a ≡ b)
-    pick none q h = (q, cc)
-    pick (some r) q h = let z : _≡_ {A = ℕ} 0 1 = cc in absurd (omega arith)
 
 -- ---- the file of a loop
 
@@ -99,7 +89,7 @@ file-bytes l ok =
 pub only-file : (f : List ℕ) (l : Loop) → Bytes f → readFile f ≡ answered l → f ≡ fileOf l
 unfolding readFile
 only-file f l bytes e =
-    let p = pass-settle (fileChecks f) (loopOf f) l e in
+    let p = settled-answer (firstRefusal (fileChecks f)) (loopOf f) l e in
     sym (file-back f bytes (p .0)) ∙ ap fileOf (p .1)
 
 -- the files that are accepted are those of the loops in range that version 1 can hold
@@ -120,7 +110,7 @@ pub written-passes : (d : Fields) (room : ℕ) (f : List ℕ) → writeFile d ro
     → (firstRefusal (givenChecks d) ≡ none) × (f ≡ fileOf (loopFrom d)) × (length f ≤ room)
 unfolding writeFile writeChecks
 written-passes d room f e =
-    let p = pass-settle (writeChecks d room) (fileOf (loopFrom d)) f e in
+    let p = settled-answer (firstRefusal (writeChecks d room)) (fileOf (loopFrom d)) f e in
     let q : firstRefusal (givenChecks d ++ (lent (length (fileOf (loopFrom d))) room ∷ [])) ≡ none = p .0 in
     let k : length (fileOf (loopFrom d)) ≤ room = search passing in
     (search passing, sym (p .1), rw (p .1) at k)

@@ -43,7 +43,7 @@ module _ (f : List ℕ) (bytes : Bytes f) where
       rw (p, q, add-one i)
 
   -- the entry of a section with a tag of 4 bytes
-  entry-is : (s : Section) (start : ℕ) → length (s .tag) ≡ 4 → firstRefusal (entryChecks f s start) ≡ none → entryBytes s start (lengthOf f s) ≡ row f (s .entry) 8
+  entry-is : (s : Section) (start : ℕ) → length (s .tag) ≡ 4 → firstRefusal (entryChecks f s start) ≡ none → entryBytes (s .tag) start (lengthOf f s) ≡ row f (s .entry) 8
   unfolding entryChecks
   entry-is s start four p =
       let at : ℕ = s .entry in

@@ -11,7 +11,7 @@ use Rattle.model.specs.Lists.{upFrom}
 use Rattle.model.specs.Integers.{plus}
 use Rattle.model.specs.Refusals.{Check, check, lent, Answer, answered, refused, settle}
 use Rattle.model.specs.Loop.{Use, Op, Dep, Loop, opAt, useAt, allUses}
-use Rattle.model.specs.File.{byteAt, Section, useWidth, oper, uses, deps, operAt, opChecks, useChecks, depChecks, sizeChecks}
+use Rattle.model.specs.File.{byteAt, useWidth, oper, uses, deps, operAt, opChecks, useChecks, depChecks, sizeChecks}
 
 -- ---- a file by its three bodies
 
@@ -20,12 +20,12 @@ abbrev pub word : ℕ → List ℕ
 word n = n % 256 ∷ n / 256 ∷ []
 
 -- a section's entry in the contents: tag, offset, length
-abbrev pub entryBytes : Section → (start long : ℕ) → List ℕ
-entryBytes s start long = s .tag ++ word start ++ word long
+abbrev pub entryBytes : (tag : List ℕ) (start long : ℕ) → List ℕ
+entryBytes tag start long = tag ++ word start ++ word long
 
 -- version 1, number of entries 3, and the entries of bodies of these lengths, one behind the other
 abbrev pub headBytes : (oper-long uses-long deps-long : ℕ) → List ℕ
-headBytes a b c = 1 ∷ 3 ∷ entryBytes oper operAt a ++ entryBytes uses (operAt + a) b ++ entryBytes deps (operAt + a + b) c
+headBytes a b c = 1 ∷ 3 ∷ entryBytes (oper .tag) operAt a ++ entryBytes (uses .tag) (operAt + a) b ++ entryBytes (deps .tag) (operAt + a + b) c
 
 -- the file with these bodies
 abbrev pub fileWith : (oper-body uses-body deps-body : List ℕ) → List ℕ
@@ -42,6 +42,10 @@ pub record Fields : Type 0 where
   pub ops : List ℤ
   pub uses : List ℤ
   pub deps : List ℤ
+
+-- number i of a list
+abbrev pub fieldAt : List ℤ → ℕ → ℤ
+fieldAt xs i = getD xs i (pos 0)
 
 -- an operation: latency, number of uses
 abbrev pub opFields : Op → List ℤ
@@ -73,7 +77,7 @@ pub record HasByte (z : ℤ) : Type 0 where
 
 -- every number of a list, and what stands past its end, has one
 abbrev pub HaveBytes : List ℤ → Type 0
-HaveBytes xs = (i : ℕ) → HasByte (getD xs i (pos 0))
+HaveBytes xs = (i : ℕ) → HasByte (fieldAt xs i)
 
 -- the file in which each number is a byte
 unfoldable pub fileBy : Fields → List ℕ
@@ -88,10 +92,6 @@ abbrev pub AtOnce : Loop → Type 0
 AtOnce l = (o j : ℕ) → useAt (opAt l o) j .offset ≡ 0
 
 -- ---- the loop that lists of numbers describe
-
--- number i of a list
-abbrev pub fieldAt : List ℤ → ℕ → ℤ
-fieldAt xs i = getD xs i (pos 0)
 
 -- the number of whole operations
 abbrev pub opTotal : Fields → ℕ

@@ -1,24 +1,19 @@
 -- The verifier says legal exactly where the file is accepted, the proposal passes and the list is legal. Assumes nothing.
-use mathlib.Core.Path.{_≡_, refl, ap, _∙_}
+use mathlib.Core.Path.{_≡_, ap, _∙_}
 use mathlib.Core.Bool.{true}
 use mathlib.Core.List.{List}
-use mathlib.Core.Option.{Option, none, some}
+use mathlib.Core.Option.{Option, some}
 use Prim.Native.Nat.{ℕ, _≤_}
-use native.Mathlib.Omega.{arith}
 use Rattle.model.specs.Refusals.{Refusal, firstRefusal, answered, settled}
 use Rattle.model.specs.File.{loopOf, Accepted}
 use Rattle.model.specs.Legality.{placed, meets, legal}
 use Rattle.model.specs.Table.{countOf, cellsOf}
 use Rattle.model.specs.Verifier.{Verdict, isLegal, proposedChecks, verdict, verifyFile}
+use Rattle.model.proofs.Checks.{settled-answer}
 use Rattle.model.proofs.File.{accepted-ok}
 use Rattle.model.proofs.Verifier.{verdict-legal, legal-verdict, legal-once, once-legal}
 use Rattle.verifier.specs.Walk.{oneEach, Proposal}
 use Rattle.verifier.proofs.Proposals.{all-pass, pass-file, pass-asked}
-
--- an answer that is no refusal
-settled-answer : (o : Option Refusal) (v w : Verdict) → settled o v ≡ answered w → (o ≡ none) × (v ≡ w)
-settled-answer none v w e = (refl, cc)
-settled-answer (some r) v w e = let z : _≡_ {A = ℕ} 0 1 = cc in absurd (omega arith)
 
 module _ (f : List ℕ) (ii : ℕ) (xs : List ℕ) where
   -- the starts that count

@@ -9,9 +9,8 @@ use Rattle.model.specs.Refusals.{firstRefusal}
 use Rattle.model.specs.Writer.{headBytes, byteOf, Fields, givenChecks}
 use Rattle.model.proofs.Given.{given-few}
 use Rattle.model.proofs.Fields.{passes-bytes}
-use Rattle.refusals.proofs.Tables.{lent-fine}
+use Rattle.refusals.proofs.Tables.{fine-passes, lent-fine}
 use Rattle.loop_writer.specs.Answer.{fieldsBy}
-use Rattle.loop_writer.proofs.Tables.{fine-passes}
 use Rattle.loop_writer.proofs.Buffers.{Stored, is-stored, next-stored}
 use Rattle.loop_writer.proofs.Answers.{total, bytesOf, given-refuses, room-refuses, writes}
 use Rattle.loop_writer.proofs.write.Statement.{statement}

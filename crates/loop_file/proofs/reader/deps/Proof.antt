@@ -4,9 +4,9 @@ use mathlib.Core.Option.{none}
 use Prim.Native.Nat.{_-_, _≤_}
 use native.Mathlib.Omega.{arith}
 use Rattle.model.specs.Refusals.{firstRefusal}
-use Rattle.model.proofs.Checks.{row-next}
+use Rattle.model.proofs.Checks.{row-start, row-next}
 use Rattle.loop_file.specs.Read.{depsTable}
-use Rattle.loop_file.proofs.Tables.{row-start, passed-all, part-fine, part-refused}
+use Rattle.loop_file.proofs.Tables.{passed-all, part-fine, part-refused}
 use Rattle.loop_file.proofs.reader.deps.Statement.{statement}
 use Rattle.loop_file.proofs.reader.deps.Tie as tie
 

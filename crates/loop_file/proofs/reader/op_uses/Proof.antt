@@ -10,8 +10,8 @@ use lib.Dec.{leb, ltb}
 use borrow.Author.Tests.{lt-ltb, le-ltb, le-leb, lt-leb}
 use Rattle.model.specs.Refusals.{firstRefusal}
 use Rattle.model.specs.File.{byteAt, useWidth, slotBelow, useChecks, opUseChecks}
-use Rattle.model.proofs.Checks.{row-next}
-use Rattle.loop_file.proofs.Tables.{row-start, refused-at, passed-all}
+use Rattle.model.proofs.Checks.{row-start, row-next}
+use Rattle.loop_file.proofs.Tables.{refused-at, passed-all}
 use Rattle.loop_file.proofs.reader.op_uses.Statement.{statement}
 use Rattle.loop_file.proofs.reader.op_uses.Tie as tie
 

@@ -7,10 +7,10 @@ use native.Mathlib.Omega.{arith}
 use lib.ListN.{length}
 use Rattle.model.specs.Refusals.{firstRefusal, settle}
 use Rattle.model.specs.File.{usesOf, firstUse, opUseChecks}
-use Rattle.model.proofs.Checks.{row-next}
+use Rattle.model.proofs.Checks.{row-start, row-next}
 use Rattle.model.proofs.File.{first-use-le}
 use Rattle.loop_file.specs.Read.{partOf, usesTable}
-use Rattle.loop_file.proofs.Tables.{row-start, passed-all, part-fine, part-refused, first-use-next}
+use Rattle.loop_file.proofs.Tables.{passed-all, part-fine, part-refused, first-use-next}
 use Rattle.loop_file.proofs.reader.uses.Statement.{statement}
 use Rattle.loop_file.proofs.reader.uses.Tie as tie
 

@@ -6,9 +6,9 @@ use native.Mathlib.Omega.{arith}
 use lib.IntN.{ℤ}
 use Rattle.model.specs.Writer.{fieldAt, usesGiven, firstGiven, opGivenChecks}
 use Rattle.model.proofs.Checks.{passes-each}
-use Rattle.model.proofs.Given.{op-few}
+use Rattle.model.proofs.File.{op-few}
 use Rattle.loop_writer.proofs.Ranges.{natural-read}
-use Rattle.loop_writer.proofs.Uses.{first-none, first-next}
+use Rattle.loop_writer.proofs.Uses.{given-none, given-next}
 use Rattle.loop_writer.proofs.checks.all_uses.Statement.{statement}
 use Rattle.loop_writer.proofs.checks.all_uses.Tie as tie
 
@@ -19,7 +19,7 @@ abbrev μ-loop : tie.MeasureT-loop
 μ-loop ops n sum₀ o₀ sum o = n - o
 
 loop-holds : tie.Need-loop-holds Inv-loop μ-loop
-loop-holds c = (omega arith, first-none (c .args .ops .now), omega arith)
+loop-holds c = (omega arith, given-none (c .args .ops .now), omega arith)
 
 mul-natural : tie.Need-mul-natural Inv-loop μ-loop
 mul-natural c = omega arith
@@ -48,7 +48,7 @@ module _ (c : tie.After-natural Inv-loop μ-loop) where
   added = natural-read (fieldAt list (2 * turn + 1)) (c .before .natural-arg .given) (c .natural .ensures)
 
   few : c .natural .result ≤ 4
-  few = rw added (op-few list turn (passes-each (opGivenChecks list) 0 _ turn (c .before .before .before .before .pre .2) (omega arith) (omega arith)))
+  few = rw added (op-few _ _ _ _ (passes-each (opGivenChecks list) 0 _ turn (c .before .before .before .before .pre .2) (omega arith) (omega arith)))
 
 add-sum : tie.Need-add-sum Inv-loop μ-loop
 add-sum c = omega (arith, few c)
@@ -60,7 +60,7 @@ loop-less : tie.Need-loop-less Inv-loop μ-loop
 loop-less c = omega arith
 
 loop-again : tie.Need-loop-again Inv-loop μ-loop
-loop-again c = (omega arith, ap₂ _+_ (c .before .before .before .loop .inv .1) (added c) ∙ sym (first-next (list c) (turn c)), omega (arith, few c))
+loop-again c = (omega arith, ap₂ _+_ (c .before .before .before .loop .inv .1) (added c) ∙ sym (given-next (list c) (turn c)), omega (arith, few c))
 
 returns : tie.Need-returns Inv-loop μ-loop
 returns c =

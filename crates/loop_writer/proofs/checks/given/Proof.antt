@@ -7,9 +7,9 @@ use Rattle.model.specs.Refusals.{firstRefusal}
 use Rattle.model.specs.File.{useWidth, oper, deps, sizeChecks}
 use Rattle.model.specs.Writer.{Fields, opTotal, firstGiven, usesGivenChecks, givenChecks}
 use Rattle.refusals.specs.Checked.{refusalOf}
-use Rattle.refusals.proofs.Tables.{refused-first, rest-decides}
+use Rattle.refusals.proofs.Tables.{fine-passes, refused-first, rest-decides}
 use Rattle.loop_writer.specs.Answer.{fieldsBy}
-use Rattle.loop_writer.proofs.Tables.{fine-passes, opsTable, depsTable, afterOps, afterSizes, afterOpSize, whole, number-refused, number-right, size-range}
+use Rattle.loop_writer.proofs.Tables.{opsTable, depsTable, afterOps, afterSizes, afterOpSize, whole, number-refused, number-right, size-range}
 use Rattle.loop_writer.proofs.checks.given.Statement.{statement}
 use Rattle.loop_writer.proofs.checks.given.Tie as tie
 

@@ -9,12 +9,11 @@ use Rattle.model.specs.Lists.{upFrom}
 use Rattle.model.specs.Refusals.{Check, firstRefusal}
 use Rattle.model.specs.File.{useWidth}
 use Rattle.model.specs.Writer.{fieldAt, slotBefore, useGivenChecks, opUsesGivenChecks}
-use Rattle.model.proofs.Checks.{row-next}
-use Rattle.model.proofs.Given.{slot-few}
+use Rattle.model.proofs.Checks.{row-start, row-next}
+use Rattle.model.proofs.File.{slot-few}
 use Rattle.refusals.specs.Checked.{refusalOf}
-use Rattle.loop_file.proofs.Tables.{row-start}
+use Rattle.refusals.proofs.Tables.{fine-passes, row-refused-as, row-passed}
 use Rattle.loop_writer.proofs.Ranges.{natural-read}
-use Rattle.loop_writer.proofs.Tables.{fine-passes, row-refused-as, row-passed}
 use Rattle.loop_writer.proofs.Uses.{slot-none, slot-next}
 use Rattle.loop_writer.proofs.checks.op_uses.Statement.{statement}
 use Rattle.loop_writer.proofs.checks.op_uses.Tie as tie
@@ -88,7 +87,7 @@ loop-again c =
     let slot = natural-read (fieldAt us (useWidth * (first + l .j))) (c .before .natural-arg .given) (c .natural .ensures) in (
       omega arith,
       slot ∙ slot-next us first (l .j),
-      rw slot (slot-few us (slotBefore us first (l .j)) (first + l .j) passed),
+      rw slot (slot-few _ _ _ _ _ passed),
       row-next (table us first) (l .j) (l .inv .3) passed,
     )
 

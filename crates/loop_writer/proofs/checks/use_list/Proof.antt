@@ -8,13 +8,12 @@ use lib.IntN.{ℤ}
 use Rattle.model.specs.Lists.{upFrom}
 use Rattle.model.specs.Refusals.{Check, firstRefusal}
 use Rattle.model.specs.Writer.{fieldAt, usesGiven, firstGiven, opUsesGivenChecks}
-use Rattle.model.proofs.Checks.{row-next}
+use Rattle.model.proofs.Checks.{row-start, row-next}
 use Rattle.model.proofs.Given.{first-le}
 use Rattle.refusals.specs.Checked.{refusalOf}
-use Rattle.loop_file.proofs.Tables.{row-start}
+use Rattle.refusals.proofs.Tables.{fine-passes, row-refused-as, row-passed}
 use Rattle.loop_writer.proofs.Ranges.{natural-read}
-use Rattle.loop_writer.proofs.Tables.{fine-passes, row-refused-as, row-passed}
-use Rattle.loop_writer.proofs.Uses.{first-none, first-next}
+use Rattle.loop_writer.proofs.Uses.{given-none, given-next}
 use Rattle.loop_writer.proofs.checks.use_list.Statement.{statement}
 use Rattle.loop_writer.proofs.checks.use_list.Tie as tie
 
@@ -29,7 +28,7 @@ abbrev μ-loop : tie.MeasureT-loop
 μ-loop ops uses n first₀ o₀ first o = n - o
 
 loop-holds : tie.Need-loop-holds Inv-loop μ-loop
-loop-holds c = (omega arith, first-none (c .args .ops .now), row-start _)
+loop-holds c = (omega arith, given-none (c .args .ops .now), row-start _)
 
 mul-natural : tie.Need-mul-natural Inv-loop μ-loop
 mul-natural c = omega arith
@@ -98,7 +97,7 @@ loop-again c =
     let u = c .before .before in
     let l = u .before .before .before .before .loop in (
       omega arith,
-      ap₂ _+_ (l .inv .1) (number (u .before)) ∙ sym (first-next (list (u .before)) (l .o)),
+      ap₂ _+_ (l .inv .1) (number (u .before)) ∙ sym (given-next (list (u .before)) (l .o)),
       row-next _ (l .o) (l .inv .2) (fine-passes _ (c .enum-told .given .1) (said u)),
     )
 

@@ -5,7 +5,7 @@ use lib.IntN.{pos, _+ℤ_}
 use mir.Syntax.{w32}
 use mir.Val.{toZ, ofZ}
 use Rattle.model.specs.Writer.{byteOf}
-use Rattle.loop_writer.proofs.Bytes.{plain, high-byte, low-byte, byte-fits, cast-fits, cast-is}
+use Rattle.loop_writer.proofs.Bytes.{plain, high-byte, low-byte, byte-fits, byte-cast, byte-value}
 use Rattle.loop_writer.proofs.put.byte_of.Statement.{statement}
 use Rattle.loop_writer.proofs.put.byte_of.Tie as tie
 
@@ -21,16 +21,16 @@ add-result : tie.Need-add-result
 add-result c = byte-fits _ _ (raised c .0) (raised c .1)
 
 cast-result : tie.Need-cast-result
-cast-result c = cast-fits _ _ (raised c .0) (raised c .1)
+cast-result c = byte-cast _ _ (raised c .0) (raised c .1)
 
 cast-result-2 : tie.Need-cast-result-2
-cast-result-2 c = cast-fits _ _ (kept c .0) (kept c .1)
+cast-result-2 c = byte-cast _ _ (kept c .0) (kept c .1)
 
 returns : tie.Need-returns
-returns c = cast-is _ _ (raised c .0) (raised c .1)
+returns c = byte-value _ _ (raised c .0) (raised c .1)
 
 returns-2 : tie.Need-returns-2
-returns-2 c = cast-is _ _ (kept c .0) (kept c .1)
+returns-2 c = byte-value _ _ (kept c .0) (kept c .1)
 
 pub byte-of-spec : {M : Type 1} → statement M
 byte-of-spec = tie.close (tie.spec add-result cast-result cast-result-2 returns returns-2)

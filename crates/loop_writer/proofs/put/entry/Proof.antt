@@ -7,7 +7,6 @@ use native.Mathlib.Omega.{arith}
 use lib.ListN.{length, getD, set, length-set}
 use Rattle.model.specs.Writer.{word, entryBytes}
 use Rattle.loop_file.specs.Read.{fourOf}
-use Rattle.loop_writer.specs.Buffer.{tagged}
 use Rattle.loop_writer.proofs.Buffers.{Stored, run-stored, next-stored}
 use Rattle.loop_writer.proofs.put.entry.Statement.{statement}
 use Rattle.loop_writer.proofs.put.entry.Tie as tie
@@ -34,7 +33,7 @@ module _ (c : tie.After-word2) where
   abbrev b : tie.Start
   b = a (c .before .before .before .before)
 
-  eight : Stored (b .args .buffer .now) (b .args .at) (entryBytes (tagged (fourOf (b .args .tag .now))) (b .args .start) (b .args .long)) (c .word2 .last .0)
+  eight : Stored (b .args .buffer .now) (b .args .at) (entryBytes (fourOf (b .args .tag .now)) (b .args .start) (b .args .long)) (c .word2 .last .0)
   eight = next-stored (b .args .at + 6) (word (b .args .long)) (six (c .before .before .before .before)) (omega arith) (omega arith) (c .word2 .ensures)
 
 element-copy-out-buffer : tie.Need-element-copy-out-buffer

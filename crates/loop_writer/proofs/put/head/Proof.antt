@@ -14,16 +14,16 @@ module _ (c : tie.After-entry) where
   abbrev a : tie.Start
   a = c .before .before .before .before
 
-  one : Stored (a .args .buffer .now) 0 (1 ∷ 3 ∷ entryBytes oper operAt (a .args .oper)) (c .entry .last .0)
-  one = next-stored 2 (entryBytes oper operAt (a .args .oper)) (run-stored (1 ∷ 3 ∷ []) (a .args .buffer .now) 0 (omega arith)) (omega arith) (omega arith) (c .entry .ensures)
+  one : Stored (a .args .buffer .now) 0 (1 ∷ 3 ∷ entryBytes (oper .tag) operAt (a .args .oper)) (c .entry .last .0)
+  one = next-stored 2 (entryBytes (oper .tag) operAt (a .args .oper)) (run-stored (1 ∷ 3 ∷ []) (a .args .buffer .now) 0 (omega arith)) (omega arith) (omega arith) (c .entry .ensures)
 
 -- and the second
 module _ (c : tie.After-entry2) where
   abbrev b : tie.After-entry
   b = c .before .before .before .before .before
 
-  two : Stored (a b .args .buffer .now) 0 (1 ∷ 3 ∷ entryBytes oper operAt (a b .args .oper) ++ entryBytes uses (operAt + a b .args .oper) (a b .args .uses)) (c .entry2 .last .0)
-  two = next-stored 10 (entryBytes uses (operAt + a b .args .oper) (a b .args .uses)) (one b) (omega arith) (omega arith) (c .entry2 .ensures)
+  two : Stored (a b .args .buffer .now) 0 (1 ∷ 3 ∷ entryBytes (oper .tag) operAt (a b .args .oper) ++ entryBytes (uses .tag) (operAt + a b .args .oper) (a b .args .uses)) (c .entry2 .last .0)
+  two = next-stored 10 (entryBytes (uses .tag) (operAt + a b .args .oper) (a b .args .uses)) (one b) (omega arith) (omega arith) (c .entry2 .ensures)
 
 -- and the third
 module _ (c : tie.After-entry3) where
@@ -34,7 +34,7 @@ module _ (c : tie.After-entry3) where
   s = a (b d)
 
   three : Stored (s .args .buffer .now) 0 (headBytes (s .args .oper) (s .args .uses) (s .args .deps)) (c .entry3 .last .0)
-  three = next-stored 18 (entryBytes deps (operAt + s .args .oper + s .args .uses) (s .args .deps)) (two d) (omega arith) (omega arith) (c .entry3 .ensures)
+  three = next-stored 18 (entryBytes (deps .tag) (operAt + s .args .oper + s .args .uses) (s .args .deps)) (two d) (omega arith) (omega arith) (c .entry3 .ensures)
 
 slice-write-buffer : tie.Need-slice-write-buffer
 slice-write-buffer c = omega arith
