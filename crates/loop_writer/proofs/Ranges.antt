@@ -1,15 +1,14 @@
 -- The model's tests of a record's values as one test of signed numbers, and numbers that are not below 0. Assumes nothing.
-use mathlib.Core.Path.{_≡_, refl, sym, ap}
+use mathlib.Core.Path.{_≡_, refl, ap}
 use mathlib.Core.Bool.{Bool, true, false, _||_}
-use Prim.Native.Nat.{ℕ, suc, _+_, _-_, _^_, _≤_, _<_}
+use Prim.Native.Nat.{ℕ, suc, _+_, _-_, _≤_}
 use native.Mathlib.Omega.{arith}
 use borrow.Author.Tests.{ltb-true, le-ltb}
 use lib.Dec.{T, ltb}
 use lib.IntN.{ℤ, pos, negsuc, natAbs, _+ℤ_, _-ℤ_}
-use lib.Signed.{mag, ltZ, nonNeg}
+use lib.Signed.{ltZ, nonNeg}
 use mir.Syntax.{w32, w64}
 use mir.Val.{Fits, SFits, toZ, ofZ}
-use mir.ValLaws.{toZ-ofZ}
 use Rattle.model.specs.Integers.{plus}
 use Rattle.model.specs.File.{notUpTo, notBelow, notBetween}
 use Rattle.model.proofs.Signed.{leb-same, is-pos, is-add, is-subtract, is-eq}
@@ -32,10 +31,6 @@ between below most (negsuc n) = refl
 pub under : (n : ℕ) (z : ℤ) → 1 ≤ n → notBelow n z ≡ beyond (pos 0) (pos (n - 1)) z
 under n (pos m) h = rw (le-ltb m 0 (omega arith)) (leb-same n m (suc (n - 1)) m (λ k. omega arith) (λ k. omega arith))
 under n (negsuc m) h = refl
-
--- what a test says of a number that the machine has read from a list
-pub of-read : (low high z : ℤ) {r : Bool} → mag z < 2 ^ 31 → r ≡ beyond low high (toZ w32 (ofZ w32 z)) → beyond low high z ≡ r
-of-read low high z f e = sym (rw (toZ-ofZ w32 z (record { sfits = f })) at e)
 
 -- ---- the ends of a range, from a small unsigned number
 
@@ -69,7 +64,3 @@ natural-is (negsuc n) e = let z : _≡_ {A = ℕ} 0 1 = cc in absurd (omega arit
 pub below-is : (z : ℤ) → ltZ z (pos 0) ≡ true → 0 ≡ plus z
 below-is (pos n) e = absurd (omega (arith, ltb-true n 0 e))
 below-is (negsuc n) e = refl
-
--- what is made of a number that the machine has read from a list
-pub natural-read : (z : ℤ) {r : ℕ} → mag z < 2 ^ 31 → r ≡ plus (toZ w32 (ofZ w32 z)) → r ≡ plus z
-natural-read z f e = rw (toZ-ofZ w32 z (record { sfits = f })) at e

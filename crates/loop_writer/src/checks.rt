@@ -10,23 +10,27 @@ ghost use Rattle.model.specs.Lists.{upFrom};
 ghost use Rattle.model.specs.Integers.{plus};
 ghost use Rattle.model.specs.Refusals.{firstRefusal};
 ghost use Rattle.model.specs.File.{useWidth, sizeChecks};
-ghost use Rattle.model.specs.Writer.{firstGiven, usesGiven, opGivenChecks, useGivenChecks, opUsesGivenChecks, depGivenChecks, givenChecks};
+ghost use Rattle.model.specs.Writer.{fieldAt, firstGiven, usesGiven, opGivenChecks, useGivenChecks, opUsesGivenChecks, depGivenChecks, givenChecks};
 ghost use Rattle.loop_file.specs.Read.{sectionAs};
 ghost use Rattle.refusals.specs.Checked.{refusalOf};
 ghost use Rattle.loop_writer.specs.Answer.{fieldsBy};
 ghost use Rattle.loop_writer.specs.Ranges.{beyond};
 
-// A number that is not below 0, and 0 for one that is.
-fn natural(z: i32) -> usize
-    ensures { λ r. ⌜ r ≡ plus z ⌝ }
+// Number i of a list, and 0 where it is below 0.
+fn natural(list: &[i32], i: usize) -> usize
+    requires { ⌜ i < length (now list) ⌝ }
+    ensures { λ r. ⌜ r ≡ plus (fieldAt (now (list .entry)) i) ⌝ }
 {
+    let z = list[i];
     if z < 0 { 0 } else { z as usize }
 }
 
-// Whether a number is not one of low .. high.
-fn outside(low: i32, high: i32, z: i32) -> bool
-    ensures { λ r. ⌜ r ≡ beyond low high z ⌝ }
+// Whether number i of a list is not one of low .. high.
+fn outside(list: &[i32], i: usize, low: i32, high: i32) -> bool
+    requires { ⌜ i < length (now list) ⌝ }
+    ensures { λ r. ⌜ r ≡ beyond low high (fieldAt (now (list .entry)) i) ⌝ }
 {
+    let z = list[i];
     if z < low {
         return true;
     }
@@ -57,10 +61,10 @@ fn op(ops: &[i32], o: usize) -> Checked
     ensures { λ r. ⌜ refusalOf r ≡ firstRefusal (opGivenChecks (now (ops .entry)) o) ⌝ }
 {
     let at = 2 * o;
-    if outside(0, 64, ops[at]) {
+    if outside(ops, at, 0, 64) {
         return Checked::Refused(4, o);
     }
-    if outside(0, 4, ops[at + 1]) {
+    if outside(ops, at + 1, 0, 4) {
         return Checked::Refused(4, o);
     }
     Checked::Fine
@@ -90,7 +94,7 @@ fn all_uses(ops: &[i32], n: usize) -> usize
     let mut sum = 0;
     let mut o = 0;
     while o < n {
-        sum = sum + natural(ops[2 * o + 1]);
+        sum = sum + natural(ops, 2 * o + 1);
         o = o + 1;
     }
     sum
@@ -102,10 +106,10 @@ fn one_use(uses: &[i32], below: usize, u: usize) -> Checked
     ensures { λ r. ⌜ refusalOf r ≡ firstRefusal (useGivenChecks (now (uses .entry)) below u) ⌝ }
 {
     let at = USE_WIDTH * u;
-    if outside(below as i32 + 1, 24, uses[at]) {
+    if outside(uses, at, below as i32 + 1, 24) {
         return Checked::Refused(5, u);
     }
-    if outside(1, 16, uses[at + 1]) {
+    if outside(uses, at + 1, 1, 16) {
         return Checked::Refused(5, u);
     }
     Checked::Fine
@@ -124,7 +128,7 @@ fn op_uses(uses: &[i32], first: usize, n: usize) -> Checked
         let Checked::Fine = one else {
             return one;
         };
-        below = natural(uses[USE_WIDTH * u]);
+        below = natural(uses, USE_WIDTH * u);
         j = j + 1;
     }
     Checked::Fine
@@ -138,7 +142,7 @@ fn use_list(ops: &[i32], uses: &[i32], n: usize) -> Checked
     let mut first = 0;
     let mut o = 0;
     while o < n {
-        let k = natural(ops[2 * o + 1]);
+        let k = natural(ops, 2 * o + 1);
         let one = op_uses(uses, first, k);
         let Checked::Fine = one else {
             return one;
@@ -156,16 +160,16 @@ fn dep(deps: &[i32], n: usize, e: usize) -> Checked
 {
     let at = 4 * e;
     let last = n as i32 - 1;
-    if outside(0, last, deps[at]) {
+    if outside(deps, at, 0, last) {
         return Checked::Refused(6, e);
     }
-    if outside(0, last, deps[at + 1]) {
+    if outside(deps, at + 1, 0, last) {
         return Checked::Refused(6, e);
     }
-    if outside(-64, 64, deps[at + 2]) {
+    if outside(deps, at + 2, -64, 64) {
         return Checked::Refused(6, e);
     }
-    if outside(0, 15, deps[at + 3]) {
+    if outside(deps, at + 3, 0, 15) {
         return Checked::Refused(6, e);
     }
     Checked::Fine

@@ -1,13 +1,10 @@
 -- `checks::all_uses` meets its contract. The loop's invariant: the sum is the number of uses of the operations passed, of which each has at most four. Assumes nothing.
 use mathlib.Core.Path.{_≡_, sym, ap, ap₂, _∙_}
-use mathlib.Core.List.{List}
-use Prim.Native.Nat.{ℕ, _+_, _-_, _*_, _≤_}
+use Prim.Native.Nat.{_+_, _-_, _*_, _≤_}
 use native.Mathlib.Omega.{arith}
-use lib.IntN.{ℤ}
-use Rattle.model.specs.Writer.{fieldAt, usesGiven, firstGiven, opGivenChecks}
+use Rattle.model.specs.Writer.{firstGiven, opGivenChecks}
 use Rattle.model.proofs.Checks.{passes-each}
 use Rattle.model.proofs.File.{op-few}
-use Rattle.loop_writer.proofs.Ranges.{natural-read}
 use Rattle.loop_writer.proofs.Uses.{given-none, given-next}
 use Rattle.loop_writer.proofs.checks.all_uses.Statement.{statement}
 use Rattle.loop_writer.proofs.checks.all_uses.Tie as tie
@@ -27,28 +24,14 @@ mul-natural c = omega arith
 add-natural : tie.Need-add-natural Inv-loop μ-loop
 add-natural c = omega arith
 
-mul-natural-2 : tie.Need-mul-natural-2 Inv-loop μ-loop
-mul-natural-2 c = omega arith
-
-shared-slice-copy-out-natural : tie.Need-shared-slice-copy-out-natural Inv-loop μ-loop
-shared-slice-copy-out-natural c = omega arith
-
 natural-requires : tie.Need-natural-requires Inv-loop μ-loop
-natural-requires c κs = tt
+natural-requires c κs = omega arith
 
--- what is added: the uses of the operation, at most four
-module _ (c : tie.After-natural Inv-loop μ-loop) where
-  abbrev list : List ℤ
-  list = c .before .before .before .before .args .ops .now
-
-  abbrev turn : ℕ
-  turn = c .before .before .before .loop .o
-
-  added : c .natural .result ≡ usesGiven list turn
-  added = natural-read (fieldAt list (2 * turn + 1)) (c .before .natural-arg .given) (c .natural .ensures)
-
-  few : c .natural .result ≤ 4
-  few = rw added (op-few _ _ _ _ (passes-each (opGivenChecks list) 0 _ turn (c .before .before .before .before .pre .2) (omega arith) (omega arith)))
+-- what is added is at most four
+few : (c : tie.After-natural Inv-loop μ-loop) → c .natural .result ≤ 4
+few c =
+    let s = c .before .before .before in
+    rw (c .natural .ensures) (op-few _ _ _ _ (passes-each (opGivenChecks (s .args .ops .now)) 0 _ (c .before .before .loop .o) (s .pre .2) (omega arith) (omega arith)))
 
 add-sum : tie.Need-add-sum Inv-loop μ-loop
 add-sum c = omega (arith, few c)
@@ -60,7 +43,9 @@ loop-less : tie.Need-loop-less Inv-loop μ-loop
 loop-less c = omega arith
 
 loop-again : tie.Need-loop-again Inv-loop μ-loop
-loop-again c = (omega arith, ap₂ _+_ (c .before .before .before .loop .inv .1) (added c) ∙ sym (given-next (list c) (turn c)), omega (arith, few c))
+loop-again c =
+    let l = c .before .before .loop in
+    (omega arith, ap₂ _+_ (l .inv .1) (c .natural .ensures) ∙ sym (given-next (c .before .before .before .args .ops .now) (l .o)), omega (arith, few c))
 
 returns : tie.Need-returns Inv-loop μ-loop
 returns c =
@@ -76,8 +61,6 @@ all-uses-spec =
     loop-holds
     mul-natural
     add-natural
-    mul-natural-2
-    shared-slice-copy-out-natural
     natural-requires
     add-sum
     add-o

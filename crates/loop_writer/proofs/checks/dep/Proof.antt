@@ -1,7 +1,7 @@
 -- `checks::dep` meets its contract: each return rewrites the table with the tests that led there. Assumes nothing.
-use mathlib.Core.Path.{_≡_, _∙_}
+use mathlib.Core.Path.{_≡_, sym, _∙_}
 use mathlib.Core.Bool.{not, _&&_}
-use Prim.Native.Nat.{_+_, _-_, _*_}
+use Prim.Native.Nat.{_+_, _*_}
 use native.Mathlib.Omega.{arith}
 use lib.IntN.{ℤ, pos, negsuc}
 use lib.Signed.{leZ}
@@ -9,7 +9,7 @@ use Rattle.model.specs.Refusals.{firstRefusal}
 use Rattle.model.specs.File.{notUpTo, notBelow, depChecks}
 use Rattle.model.specs.Writer.{fieldAt}
 use Rattle.model.proofs.Signed.{outside-range}
-use Rattle.loop_writer.proofs.Ranges.{up-to, under, of-read, last-fits, last-is}
+use Rattle.loop_writer.proofs.Ranges.{up-to, under, last-fits, last-is}
 use Rattle.loop_writer.proofs.checks.dep.Statement.{statement}
 use Rattle.loop_writer.proofs.checks.dep.Tie as tie
 
@@ -35,48 +35,36 @@ cast-last c = omega arith
 sub-last : tie.Need-sub-last
 sub-last c = last-fits (c .args .n) (omega arith)
 
-mul-outside : tie.Need-mul-outside
-mul-outside c = omega arith
-
-shared-slice-copy-out-outside : tie.Need-shared-slice-copy-out-outside
-shared-slice-copy-out-outside c = omega arith
-
 outside-requires : tie.Need-outside-requires
-outside-requires c κs = tt
+outside-requires c κs = omega arith
 
 -- ---- what the tests say of them
 
-source-said : (c : tie.After-outside) → notBelow (c .before .before .args .n) (source (c .before .before)) ≡ c .outside .result
+source-said : (c : tie.After-outside) → notBelow (c .before .args .n) (source (c .before)) ≡ c .outside .result
 source-said c =
-    let s = c .before .before in
-    under (s .args .n) (source s) (omega arith)
-    ∙ of-read (pos 0) (pos (s .args .n - 1)) (source s) (c .before .outside-arg .given) (rw (last-is (s .args .n) (omega arith) (omega arith)) at (c .outside .ensures))
+    let s = c .before in
+    under (s .args .n) (source s) (omega arith) ∙ sym (rw (last-is (s .args .n) (omega arith) (omega arith)) at (c .outside .ensures))
 
--- the place of the first test, and of the second
+-- the place of the test before each
 abbrev first : tie.After-outside2 → tie.After-outside
-first c = c .before .before .before
+first c = c .before .before
 
-target-said : (c : tie.After-outside2) → let s = first c .before .before in notBelow (s .args .n) (target s) ≡ c .outside2 .result
+target-said : (c : tie.After-outside2) → let s = first c .before in notBelow (s .args .n) (target s) ≡ c .outside2 .result
 target-said c =
-    let s = first c .before .before in
-    under (s .args .n) (target s) (omega arith)
-    ∙ of-read (pos 0) (pos (s .args .n - 1)) (target s) (c .before .outside-arg2 .given) (rw (last-is (s .args .n) (omega arith) (omega arith)) at (c .outside2 .ensures))
+    let s = first c .before in
+    under (s .args .n) (target s) (omega arith) ∙ sym (rw (last-is (s .args .n) (omega arith) (omega arith)) at (c .outside2 .ensures))
 
 abbrev second : tie.After-outside3 → tie.After-outside2
-second c = c .before .before .before
+second c = c .before .before
 
-delay-said : (c : tie.After-outside3) → let z = delay (first (second c) .before .before) in not (leZ (negsuc 63) z && leZ z (pos 64)) ≡ c .outside3 .result
-delay-said c =
-    let z = delay (first (second c) .before .before) in
-    outside-range (negsuc 63) (pos 64) z ∙ of-read (negsuc 63) (pos 64) z (c .before .outside-arg3 .given) (c .outside3 .ensures)
+delay-said : (c : tie.After-outside3) → let z = delay (first (second c) .before) in not (leZ (negsuc 63) z && leZ z (pos 64)) ≡ c .outside3 .result
+delay-said c = outside-range (negsuc 63) (pos 64) (delay (first (second c) .before)) ∙ sym (c .outside3 .ensures)
 
 abbrev third : tie.After-outside4 → tie.After-outside3
-third c = c .before .before .before
+third c = c .before .before
 
-distance-said : (c : tie.After-outside4) → notUpTo 15 (distance (first (second (third c)) .before .before)) ≡ c .outside4 .result
-distance-said c =
-    let z = distance (first (second (third c)) .before .before) in
-    up-to 15 z ∙ of-read (pos 0) (pos 15) z (c .before .outside-arg4 .given) (c .outside4 .ensures)
+distance-said : (c : tie.After-outside4) → notUpTo 15 (distance (first (second (third c)) .before)) ≡ c .outside4 .result
+distance-said c = up-to 15 (distance (first (second (third c)) .before)) ∙ sym (c .outside4 .ensures)
 
 -- ---- the returns
 
@@ -87,49 +75,31 @@ returns c = rw (source-said (c .before) ∙ c .if1 .taken)
 add-outside : tie.Need-add-outside
 add-outside c = omega arith
 
-mul-outside-2 : tie.Need-mul-outside-2
-mul-outside-2 c = omega arith
-
-shared-slice-copy-out-outside-2 : tie.Need-shared-slice-copy-out-outside-2
-shared-slice-copy-out-outside-2 c = omega arith
-
 outside-requires-2 : tie.Need-outside-requires-2
-outside-requires-2 c κs = tt
+outside-requires-2 c κs = omega arith
 
 returns-2 : tie.Need-returns-2
 unfolding depChecks firstRefusal
-returns-2 c = let t = c .before in rw (source-said (first t) ∙ t .before .before .if1 .left, target-said t ∙ c .if2 .taken)
+returns-2 c = let t = c .before in rw (source-said (first t) ∙ t .before .if1 .left, target-said t ∙ c .if2 .taken)
 
 add-outside-2 : tie.Need-add-outside-2
 add-outside-2 c = omega arith
 
-mul-outside-3 : tie.Need-mul-outside-3
-mul-outside-3 c = omega arith
-
-shared-slice-copy-out-outside-3 : tie.Need-shared-slice-copy-out-outside-3
-shared-slice-copy-out-outside-3 c = omega arith
-
 outside-requires-3 : tie.Need-outside-requires-3
-outside-requires-3 c κs = tt
+outside-requires-3 c κs = omega arith
 
 returns-3 : tie.Need-returns-3
 unfolding depChecks firstRefusal
 returns-3 c =
     let d = c .before in
     let t = second d in
-    rw (source-said (first t) ∙ t .before .before .if1 .left, target-said t ∙ d .before .before .if2 .left, delay-said d ∙ c .if3 .taken)
+    rw (source-said (first t) ∙ t .before .if1 .left, target-said t ∙ d .before .if2 .left, delay-said d ∙ c .if3 .taken)
 
 add-outside-3 : tie.Need-add-outside-3
 add-outside-3 c = omega arith
 
-mul-outside-4 : tie.Need-mul-outside-4
-mul-outside-4 c = omega arith
-
-shared-slice-copy-out-outside-4 : tie.Need-shared-slice-copy-out-outside-4
-shared-slice-copy-out-outside-4 c = omega arith
-
 outside-requires-4 : tie.Need-outside-requires-4
-outside-requires-4 c κs = tt
+outside-requires-4 c κs = omega arith
 
 returns-4 : tie.Need-returns-4
 unfolding depChecks firstRefusal
@@ -137,7 +107,7 @@ returns-4 c =
     let r = c .before in
     let d = third r in
     let t = second d in
-    rw (source-said (first t) ∙ t .before .before .if1 .left, target-said t ∙ d .before .before .if2 .left, delay-said d ∙ r .before .before .if3 .left, distance-said r ∙ c .if4 .taken)
+    rw (source-said (first t) ∙ t .before .if1 .left, target-said t ∙ d .before .if2 .left, delay-said d ∙ r .before .if3 .left, distance-said r ∙ c .if4 .taken)
 
 returns-5 : tie.Need-returns-5
 unfolding depChecks firstRefusal
@@ -145,7 +115,7 @@ returns-5 c =
     let r = c .before in
     let d = third r in
     let t = second d in
-    rw (source-said (first t) ∙ t .before .before .if1 .left, target-said t ∙ d .before .before .if2 .left, delay-said d ∙ r .before .before .if3 .left, distance-said r ∙ c .if4 .left)
+    rw (source-said (first t) ∙ t .before .if1 .left, target-said t ∙ d .before .if2 .left, delay-said d ∙ r .before .if3 .left, distance-said r ∙ c .if4 .left)
 
 pub dep-spec : {M : Type 1} → statement M
 dep-spec =
@@ -154,23 +124,15 @@ dep-spec =
     mul-at
     cast-last
     sub-last
-    mul-outside
-    shared-slice-copy-out-outside
     outside-requires
     returns
     add-outside
-    mul-outside-2
-    shared-slice-copy-out-outside-2
     outside-requires-2
     returns-2
     add-outside-2
-    mul-outside-3
-    shared-slice-copy-out-outside-3
     outside-requires-3
     returns-3
     add-outside-3
-    mul-outside-4
-    shared-slice-copy-out-outside-4
     outside-requires-4
     returns-4
     returns-5)

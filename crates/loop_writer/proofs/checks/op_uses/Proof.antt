@@ -2,18 +2,16 @@
 use mathlib.Core.Path.{_≡_, ap, _∙_}
 use mathlib.Core.List.{List, flatMap}
 use mathlib.Core.Option.{none}
-use Prim.Native.Nat.{ℕ, _+_, _-_, _*_, _≤_}
+use Prim.Native.Nat.{ℕ, _+_, _-_, _≤_}
 use native.Mathlib.Omega.{arith}
 use lib.IntN.{ℤ}
 use Rattle.model.specs.Lists.{upFrom}
 use Rattle.model.specs.Refusals.{Check, firstRefusal}
-use Rattle.model.specs.File.{useWidth}
-use Rattle.model.specs.Writer.{fieldAt, slotBefore, useGivenChecks, opUsesGivenChecks}
+use Rattle.model.specs.Writer.{slotBefore, useGivenChecks, opUsesGivenChecks}
 use Rattle.model.proofs.Checks.{row-start, row-next}
 use Rattle.model.proofs.File.{slot-few}
 use Rattle.refusals.specs.Checked.{refusalOf}
 use Rattle.refusals.proofs.Tables.{fine-passes, row-refused-as, row-passed}
-use Rattle.loop_writer.proofs.Ranges.{natural-read}
 use Rattle.loop_writer.proofs.Uses.{slot-none, slot-next}
 use Rattle.loop_writer.proofs.checks.op_uses.Statement.{statement}
 use Rattle.loop_writer.proofs.checks.op_uses.Tie as tie
@@ -62,14 +60,8 @@ returns c =
 mul-natural : tie.Need-mul-natural Inv-loop μ-loop
 mul-natural c = omega arith
 
-mul-natural-2 : tie.Need-mul-natural-2 Inv-loop μ-loop
-mul-natural-2 c = omega arith
-
-shared-slice-copy-out-natural : tie.Need-shared-slice-copy-out-natural Inv-loop μ-loop
-shared-slice-copy-out-natural c = omega arith
-
 natural-requires : tie.Need-natural-requires Inv-loop μ-loop
-natural-requires c κs = tt
+natural-requires c κs = omega arith
 
 add-j : tie.Need-add-j Inv-loop μ-loop
 add-j c = omega arith
@@ -79,12 +71,12 @@ loop-less c = omega arith
 
 loop-again : tie.Need-loop-again Inv-loop μ-loop
 loop-again c =
-    let u = c .before .before .before .before in
+    let u = c .before .before .before in
     let l = u .before .before .loop in
     let us = u .before .before .before .args .uses .now in
     let first = u .before .before .before .args .first in
-    let passed = fine-passes (table us first (l .j)) (c .before .before .enum-told .given .1) (said u) in
-    let slot = natural-read (fieldAt us (useWidth * (first + l .j))) (c .before .natural-arg .given) (c .natural .ensures) in (
+    let passed = fine-passes (table us first (l .j)) (c .before .enum-told .given .1) (said u) in
+    let slot = c .natural .ensures in (
       omega arith,
       slot ∙ slot-next us first (l .j),
       rw slot (slot-few _ _ _ _ _ passed),
@@ -108,8 +100,6 @@ op-uses-spec =
     enum-told-2
     returns
     mul-natural
-    mul-natural-2
-    shared-slice-copy-out-natural
     natural-requires
     add-j
     loop-less

@@ -2,17 +2,16 @@
 use mathlib.Core.Path.{_≡_, sym, ap₂, _∙_}
 use mathlib.Core.List.{List, flatMap}
 use mathlib.Core.Option.{none}
-use Prim.Native.Nat.{ℕ, _+_, _-_, _*_, _≤_}
+use Prim.Native.Nat.{ℕ, _+_, _-_, _≤_}
 use native.Mathlib.Omega.{arith}
 use lib.IntN.{ℤ}
 use Rattle.model.specs.Lists.{upFrom}
 use Rattle.model.specs.Refusals.{Check, firstRefusal}
-use Rattle.model.specs.Writer.{fieldAt, usesGiven, firstGiven, opUsesGivenChecks}
+use Rattle.model.specs.Writer.{usesGiven, firstGiven, opUsesGivenChecks}
 use Rattle.model.proofs.Checks.{row-start, row-next}
 use Rattle.model.proofs.Given.{first-le}
 use Rattle.refusals.specs.Checked.{refusalOf}
 use Rattle.refusals.proofs.Tables.{fine-passes, row-refused-as, row-passed}
-use Rattle.loop_writer.proofs.Ranges.{natural-read}
 use Rattle.loop_writer.proofs.Uses.{given-none, given-next}
 use Rattle.loop_writer.proofs.checks.use_list.Statement.{statement}
 use Rattle.loop_writer.proofs.checks.use_list.Tie as tie
@@ -36,40 +35,25 @@ mul-natural c = omega arith
 add-natural : tie.Need-add-natural Inv-loop μ-loop
 add-natural c = omega arith
 
-mul-natural-2 : tie.Need-mul-natural-2 Inv-loop μ-loop
-mul-natural-2 c = omega arith
-
-shared-slice-copy-out-natural : tie.Need-shared-slice-copy-out-natural Inv-loop μ-loop
-shared-slice-copy-out-natural c = omega arith
-
 natural-requires : tie.Need-natural-requires Inv-loop μ-loop
-natural-requires c κs = tt
+natural-requires c κs = omega arith
 
--- once the number of an operation's uses is read
-module _ (c : tie.After-natural Inv-loop μ-loop) where
-  abbrev list : List ℤ
-  list = c .before .before .before .before .args .ops .now
-
-  abbrev turn : ℕ
-  turn = c .before .before .before .loop .o
-
-  -- it is what the list says
-  number : c .natural .result ≡ usesGiven list turn
-  number = natural-read (fieldAt list (2 * turn + 1)) (c .before .natural-arg .given) (c .natural .ensures)
-
-  -- and these uses stand before those of the operations after it
-  inside : c .before .before .before .loop .first + c .natural .result ≤ firstGiven list (c .before .before .before .before .args .n)
-  inside = omega (arith, first-le list turn (c .before .before .before .before .args .n) (omega arith), number, c .before .before .before .loop .inv .1)
+-- the uses of an operation stand before those of the operations after it
+inside : (c : tie.After-natural Inv-loop μ-loop) → let a = c .before .before .before .args in c .before .before .loop .first + c .natural .result ≤ firstGiven (a .ops .now) (a .n)
+inside c =
+    let a = c .before .before .before .args in
+    let l = c .before .before .loop in
+    omega (arith, first-le (a .ops .now) (l .o) (a .n) (omega arith), c .natural .ensures, l .inv .1)
 
 op-uses-requires : tie.Need-op-uses-requires Inv-loop μ-loop
 op-uses-requires c κs = omega (arith, inside c)
 
 -- what the check of its uses says
-said : (c : tie.After-op-uses Inv-loop μ-loop) → let a = c .before .before .before .before .before .args in
-    refusalOf (c .op-uses .result) ≡ firstRefusal (table (a .ops .now) (a .uses .now) (turn (c .before)))
+said : (c : tie.After-op-uses Inv-loop μ-loop) → let a = c .before .before .before .before .args in
+    refusalOf (c .op-uses .result) ≡ firstRefusal (table (a .ops .now) (a .uses .now) (c .before .before .before .loop .o))
 said c =
-    let us = c .before .before .before .before .before .args .uses .now in
-    c .op-uses .ensures ∙ ap₂ (λ (u n : ℕ). firstRefusal (opUsesGivenChecks us u n)) (c .before .before .before .before .loop .inv .1) (number (c .before))
+    let us = c .before .before .before .before .args .uses .now in
+    c .op-uses .ensures ∙ ap₂ (λ (u n : ℕ). firstRefusal (opUsesGivenChecks us u n)) (c .before .before .before .loop .inv .1) (c .before .natural .ensures)
 
 enum-told : tie.Need-enum-told Inv-loop μ-loop
 enum-told c = c .match .keys1
@@ -80,7 +64,7 @@ enum-told-2 c = c .match .keys2
 returns : tie.Need-returns Inv-loop μ-loop
 returns c =
     let u = c .before .before in
-    let l = u .before .before .before .before .loop in
+    let l = u .before .before .before .loop in
     row-refused-as _ (l .o) _ (omega arith) (l .inv .2) (c .enum-told2 .given .1) (said u)
 
 add-first : tie.Need-add-first Inv-loop μ-loop
@@ -95,9 +79,9 @@ loop-less c = omega arith
 loop-again : tie.Need-loop-again Inv-loop μ-loop
 loop-again c =
     let u = c .before .before in
-    let l = u .before .before .before .before .loop in (
+    let l = u .before .before .before .loop in (
       omega arith,
-      ap₂ _+_ (l .inv .1) (number (u .before)) ∙ sym (given-next (list (u .before)) (l .o)),
+      ap₂ _+_ (l .inv .1) (u .before .natural .ensures) ∙ sym (given-next (u .before .before .before .before .args .ops .now) (l .o)),
       row-next _ (l .o) (l .inv .2) (fine-passes _ (c .enum-told .given .1) (said u)),
     )
 
@@ -113,8 +97,6 @@ use-list-spec =
     loop-holds
     mul-natural
     add-natural
-    mul-natural-2
-    shared-slice-copy-out-natural
     natural-requires
     op-uses-requires
     enum-told
