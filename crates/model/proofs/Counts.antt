@@ -9,7 +9,7 @@ use native.Mathlib.Omega.{arith}
 use borrow.Author.Tests.{eq-eqb, ne-eqb, ltb-false, le-ltb, not-true}
 use lib.Dec.{eqb}
 use lib.ListN.{length}
-use Rattle.model.specs.Lists.{upFrom, anyOf, countIf}
+use Rattle.model.specs.Lists.{upFrom, anyOf, countIf, sumOf}
 use Rattle.model.specs.Loop.{Op, Loop, size, opAt, depAt, LoopOk}
 use Rattle.model.specs.Legality.{Placing, placed, brokenAt, meets, Cell, footprint, selfConflict, apart, legalAt, legal, placeAt, breaks, conflicts, fitsAt}
 use Rattle.model.specs.Table.{countOf, opCells, cellsOf}
@@ -74,6 +74,21 @@ legal-within-part cap l ii f g p e =
 
 -- ---- one operation more
 
+-- a sum over the placed operations, in which one that is not placed counts nothing, has what the new one counts besides
+pub sum-placed : (h : ℕ → Option ℕ → ℕ) (f : Placing) (n o t : ℕ) → o < n → f o ≡ none → h o none ≡ 0
+    → sumOf (λ p. h p (placeAt f o t p)) (upFrom 0 n) ≡ h o (some t) + sumOf (λ p. h p (f p)) (upFrom 0 n)
+sum-placed h f n o t inside open-yet e =
+    sum-same _ (λ p. more p + h p (f p)) 0 n (λ p a b. go p (ℕ-discrete p o))
+    ∙ sum-add more (λ p. h p (f p)) (upFrom 0 n)
+    ∙ ap (λ (k : ℕ). k + sumOf (λ p. h p (f p)) (upFrom 0 n)) (sum-only more n o inside (λ p m q. rw (ne-eqb p o q)) ∙ rw (eq-eqb o o refl))
+  where
+    more : ℕ → ℕ
+    more p = cond (eqb p o) (h o (some t)) 0
+
+    go : (p : ℕ) → Dec (p ≡ o) → h p (placeAt f o t p) ≡ more p + h p (f p)
+    go p (yes q) = rw (q, eq-eqb o o refl, open-yet) (omega (arith, e))
+    go p (no q) = rw (ne-eqb p o q) (omega arith)
+
 module _ (l : Loop) (ii : ℕ) (f : Placing) (o t : ℕ) (inside : o < size l) (open-yet : f o ≡ none) where
   -- its own cells
   abbrev own : List Cell
@@ -83,17 +98,8 @@ module _ (l : Loop) (ii : ℕ) (f : Placing) (o t : ℕ) (inside : o < size l) (
   pub used-place : (s r : ℕ) → used l ii (placeAt f o t) s r ≡ countOf s r (footprint ii (opAt l o) t) + used l ii f s r
   unfolding countIf
   used-place s r =
-      cells-sum l ii (placeAt f o t) s r
-      ∙ sum-same _ (λ p. more p + cellsAt l ii f s r p) 0 (size l) (λ p a b. go p (ℕ-discrete p o))
-      ∙ sum-add more (cellsAt l ii f s r) (upFrom 0 (size l))
-      ∙ ap₂ _+_ (sum-only more (size l) o inside (λ p m n. rw (ne-eqb p o n)) ∙ rw (eq-eqb o o refl)) (sym (cells-sum l ii f s r))
-    where
-      more : ℕ → ℕ
-      more p = cond (eqb p o) (countOf s r own) 0
-
-      go : (p : ℕ) → Dec (p ≡ o) → cellsAt l ii (placeAt f o t) s r p ≡ more p + cellsAt l ii f s r p
-      go p (yes e) = rw (e, eq-eqb o o refl, open-yet) (omega arith)
-      go p (no n) = rw (ne-eqb p o n) (omega arith)
+      cells-sum l ii (placeAt f o t) s r ∙ sum-placed (λ p x. countOf s r (opCells ii (opAt l p) x)) f (size l) o t inside open-yet refl
+      ∙ ap (λ (n : ℕ). countOf s r own + n) (sym (cells-sum l ii f s r))
 
   -- the placing with it is within the capacities exactly where it was and there is room for it
   pub within-place : (cap : Capacity) → within cap l ii (placeAt f o t) ≡ (within cap l ii f && roomFor cap l ii f o t)

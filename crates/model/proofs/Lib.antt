@@ -30,5 +30,6 @@ pub mod Stages
 pub mod Verifier
 pub mod Session
 pub mod Good
+pub mod Free
 pub mod Undo
 pub mod Cases

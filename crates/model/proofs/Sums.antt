@@ -8,6 +8,7 @@ use native.Mathlib.Nat.{eq-or-lt-of-le, mul-suc}
 use native.Mathlib.Numerals.{add-one}
 use native.Mathlib.Decide.{ℕ-discrete, decLe}
 use native.Mathlib.Omega.{arith}
+use lib.Dec.{eqb}
 use Rattle.model.specs.Lists.{upFrom, countIf, sumOf, maxOf}
 use Rattle.model.proofs.Lists.{upFrom-split, sum-append, sum-add, sum-none, sum-around}
 
@@ -74,6 +75,17 @@ pub sum-most : (f : ℕ → ℕ) (b a n : ℕ) → ((k : ℕ) → a ≤ k → k 
 unfolding sumOf upFrom
 sum-most f b a zero h = omega arith
 sum-most f b a (suc n) h = omega (arith, h a (omega arith) (omega arith), sum-most f b (suc a) n (λ k l m. h k (omega arith) (omega arith)))
+
+-- of numbers that are 0 or 1, those that are 0 and the sum make up all
+pub zeros-sum : (g : ℕ → ℕ) (a n : ℕ) → ((k : ℕ) → a ≤ k → k < a + n → g k ≤ 1) → countIf (λ k. eqb (g k) 0) (upFrom a n) + sumOf g (upFrom a n) ≡ n
+unfolding countIf sumOf upFrom
+zeros-sum g a zero h = refl
+zeros-sum g a (suc n) h = omega (arith, bit (g a) (h a (omega arith) (omega arith)), zeros-sum g (suc a) n (λ k l m. h k (omega arith) (omega arith)))
+  where
+    bit : (x : ℕ) → x ≤ 1 → cond (eqb x 0) 1 0 + x ≡ 1
+    bit zero l = refl
+    bit (suc zero) l = refl
+    bit (suc (suc x)) l = absurd (omega arith)
 
 -- the largest of a row with one number more
 pub max-next : (f : ℕ → ℕ) (a n : ℕ) → maxOf f (upFrom a (n + 1)) ≡ max (maxOf f (upFrom a n)) (f (a + n))

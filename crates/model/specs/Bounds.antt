@@ -10,7 +10,7 @@ use lib.ListN.{length}
 use lib.Signed.{_<ℤ_}
 use Rattle.model.specs.Lists.{upFrom, sumOf, maxOf}
 use Rattle.model.specs.Refusals.{Refusal, firstRefusal, Answer, answered, refused}
-use Rattle.model.specs.Loop.{Loop, size, depAt}
+use Rattle.model.specs.Loop.{Loop, opOn, size, depAt}
 use Rattle.model.specs.File.{Accepted, fileChecks, loopOf}
 use Rattle.model.specs.Legality.{placed, meets}
 
@@ -18,7 +18,7 @@ use Rattle.model.specs.Legality.{placed, meets}
 
 -- the total of durations on slot s
 unfoldable pub totalOn : Loop → ℕ → ℕ
-totalOn l s = sumOf (λ p. sumOf (λ u. cond (eqb (u .slot) s) (u .duration) 0) (p .uses)) (l .ops)
+totalOn l s = sumOf (opOn s) (l .ops)
 
 -- the largest total on one slot, and 1 where there are no uses
 unfoldable pub resourceBound : Loop → ℕ

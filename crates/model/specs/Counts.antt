@@ -4,8 +4,8 @@ use mathlib.Core.List.{List, map, flatMap}
 use mathlib.Core.Option.{Option, none, some}
 use Prim.Native.Nat.{ℕ, _+_, _-_, _*_, _%_}
 use lib.Dec.{eqb, leb, ltb}
-use Rattle.model.specs.Lists.{upFrom, anyOf, first, countIf}
-use Rattle.model.specs.Loop.{Use, Op, Loop, opAt}
+use Rattle.model.specs.Lists.{upFrom, anyOf, first, countIf, sumOf}
+use Rattle.model.specs.Loop.{Use, Op, Loop, size, opAt, opOn}
 use Rattle.model.specs.Legality.{Placing, meets, Cell, covers, footprint, breaks}
 use Rattle.model.specs.Table.{countOf, cellsOf}
 
@@ -34,6 +34,15 @@ used l ii f s r = countOf s r (cellsOf l ii f)
 -- by one operation, started at t
 abbrev pub usedBy : ℕ → Op → ℕ → Usage
 usedBy ii p t s r = countOf s r (footprint ii p t)
+
+-- the cycles for which an operation holds slot s, none where it is not placed
+abbrev pub placedOn : ℕ → Op → Option ℕ → ℕ
+placedOn s p none = 0
+placedOn s p (some t) = opOn s p
+
+-- the durations on slot s of what is placed
+unfoldable pub heldOn : Loop → Placing → ℕ → ℕ
+heldOn l f s = sumOf (λ o. placedOn s (opAt l o) (f o)) (upFrom 0 (size l))
 
 -- ---- room
 

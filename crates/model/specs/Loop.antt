@@ -1,6 +1,8 @@
 -- A loop: operations with their uses of slots, and dependences. Assumes nothing.
+use mathlib.Core.Bool.{cond}
 use mathlib.Core.List.{List, [], flatMap}
 use Prim.Native.Nat.{ℕ, suc, _+_, _≤_, _<_}
+use lib.Dec.{eqb}
 use lib.IntN.{ℤ, pos, negsuc}
 use lib.ListN.{length, getD, take}
 use lib.Signed.{_≤ℤ_}
@@ -64,6 +66,14 @@ firstUseOf l o = sumOf (λ p. length (p .uses)) (take o (l .ops))
 -- use j of an operation
 abbrev pub useAt : Op → ℕ → Use
 useAt p j = getD (p .uses) j noUse
+
+-- for how many cycles a use holds slot s: its duration, where it is of that slot
+abbrev pub useOn : ℕ → Use → ℕ
+useOn s u = cond (eqb (u .slot) s) (u .duration) 0
+
+-- for how many cycles an operation holds slot s: the durations of its uses of it
+abbrev pub opOn : ℕ → Op → ℕ
+opOn s p = sumOf (useOn s) (p .uses)
 
 -- ---- the ranges of document 01: what every accepted file's loop obeys (proofs/File.antt)
 

@@ -4,7 +4,8 @@ use mathlib.Core.Bool.{Bool}
 use mathlib.Core.List.{List, [], map, flatMap}
 use mathlib.Core.Option.{Option, none, some}
 use Prim.Native.Nat.{ℕ, zero, suc, _+_, _-_, _*_, _/_, _%_, _^_, _≤_, _<_}
-use lib.ListN.{length, getD}
+use lib.Dec.{eqb}
+use lib.ListN.{length, getD, take}
 use Rattle.model.specs.Lists.{upFrom, anyOf, countIf}
 use Rattle.model.specs.Loop.{Op, Loop, size, opAt}
 use Rattle.model.specs.Legality.{Placing, Cell, sameCell, footprint}
@@ -61,3 +62,13 @@ digitOf base x s = x / base ^ (s - 1) % base
 -- every count is a digit
 abbrev pub Digits : ℕ → List Cell → Type 0
 Digits base cells = (s r : ℕ) → countOf s r cells < base
+
+-- ---- free rows (document 02, order 4)
+
+-- how many of the first ii rows have the bit of slot s clear
+unfoldable pub freeOf : ℕ → List ℕ → ℕ → ℕ
+freeOf ii rows s = countIf (λ x. eqb (digitOf rowBase x s) 0) (take ii rows)
+
+-- the 24 numbers of a table, of slots 1 to 24
+unfoldable pub freeRows : ℕ → List ℕ → List ℕ
+freeRows ii rows = map (freeOf ii rows) (upFrom 1 24)
