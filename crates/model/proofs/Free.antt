@@ -8,11 +8,11 @@ use native.Mathlib.Omega.{arith}
 use borrow.Author.Tests.{leb-false, not-false}
 use lib.Dec.{eqb}
 use lib.ListN.{length, getD, set, length-set}
-use lib.Seq.{getD-set-same, set-getD, set-set}
+use lib.Seq.{take-all, getD-set-same, set-getD, set-set}
 use Rattle.model.specs.Lists.{upFrom, anyOf, countIf, sumOf}
 use Rattle.model.specs.Refusals.{firstRefusal}
 use Rattle.model.specs.Loop.{Loop, noOp, size, opAt, opOn, LoopOk}
-use Rattle.model.specs.Legality.{Placing, placed, meets, apart, legalAt, placeAt}
+use Rattle.model.specs.Legality.{Placing, placed, Cell, meets, apart, legalAt, placeAt}
 use Rattle.model.specs.Table.{rowBase, countOf, opCells, rowNumber, tableOf, cellsOf, IsTable, digitOf, freeOf, freeRows}
 use Rattle.model.specs.Counts.{placedOn, heldOn}
 use Rattle.model.specs.Bounds.{totalOn}
@@ -22,7 +22,7 @@ use Rattle.model.proofs.Rows.{tabulate-is}
 use Rattle.model.proofs.Checks.{passes-head, passes-tail}
 use Rattle.model.proofs.Sums.{sum-swap, zeros-sum}
 use Rattle.model.proofs.StartLists.{placed-in, set-places}
-use Rattle.model.proofs.Table.{row-digit, table-take}
+use Rattle.model.proofs.Table.{row-digit, length-table, table-take}
 use Rattle.model.proofs.Cells.{rows-footprint}
 use Rattle.model.proofs.Conflicts.{cellsAt, cells-sum, apart-once}
 use Rattle.model.proofs.Counts.{sum-placed}
@@ -70,6 +70,18 @@ pub free-at : (ii : ℕ) (rows : List ℕ) (i : ℕ) → i < 24 → getD (freeRo
 unfolding freeRows
 free-at ii rows i l = getD-tabulate (freeOf ii rows) 1 24 i 0 l ∙ ap (freeOf ii rows) (omega arith)
 
+-- 24 numbers that are so are those of the table
+pub free-same : (ii : ℕ) (rows xs : List ℕ) → length xs ≡ 24 → ((i : ℕ) → i < 24 → getD xs i 0 ≡ freeOf ii rows (suc i)) → xs ≡ freeRows ii rows
+unfolding freeRows
+free-same ii rows xs e h = sym (tabulate-is (freeOf ii rows) 1 24 xs 0 (sym e) (λ i l. let next : 1 + i ≡ suc i = omega arith in ap (freeOf ii rows) next ∙ sym (h i l)))
+
+-- rows that hold a table have its numbers
+pub free-table : (ii : ℕ) (cells : List Cell) (rows : List ℕ) → IsTable rowBase ii cells rows → freeRows ii rows ≡ freeRows ii (tableOf rowBase ii cells)
+unfolding freeRows freeOf
+free-table ii cells rows held =
+    ap (λ (xs : List ℕ). map (λ s. countIf (λ x. eqb (digitOf rowBase x s) 0) xs) (upFrom 1 24))
+    (table-take rowBase ii cells rows held ∙ sym (take-all ii (tableOf rowBase ii cells) (omega (arith, length-table rowBase ii cells))))
+
 module _ (l : Loop) (ii : ℕ) (f : Placing) (rows : List ℕ) (ok : LoopOk l) (pos : 1 ≤ ii) (fine : legalAt l ii f ≡ true) (held : IsTable rowBase ii (cellsOf l ii f) rows) where
   -- no cell occurs twice
   once : (s r : ℕ) → countOf s r (cellsOf l ii f) ≤ 1
@@ -89,16 +101,9 @@ module _ (l : Loop) (ii : ℕ) (f : Placing) (rows : List ℕ) (ok : LoopOk l) (
         rows-held ii s l f ok pos,
       )
 
-  -- so 24 numbers are those of the table exactly where each makes up the interval with what is held of its slot
+  -- so each number of the table makes up the interval with what is held of its slot
   pub is-free : (xs : List ℕ) → xs ≡ freeRows ii rows → (i : ℕ) → i < 24 → getD xs i 0 + heldOn l f (suc i) ≡ ii
   is-free xs e i l = omega (arith, ap (λ (ys : List ℕ). getD ys i 0) e ∙ free-at ii rows i l, free-held (suc i) (omega arith) (omega arith))
-
-  pub free-is : (xs : List ℕ) → length xs ≡ 24 → ((i : ℕ) → i < 24 → getD xs i 0 + heldOn l f (suc i) ≡ ii) → xs ≡ freeRows ii rows
-  unfolding freeRows
-  free-is xs e h =
-      sym (tabulate-is (freeOf ii rows) 1 24 xs 0 (sym e) (λ i l.
-      let next : 1 + i ≡ suc i = omega arith in
-      ap (freeOf ii rows) next ∙ omega (arith, h i l, free-held (suc i) (omega arith) (omega arith))))
 
 -- ---- calls that are not refused
 
@@ -131,7 +136,7 @@ module _ (u : Setup) (st : State) (whole : length (st .starts) ≡ size (u .loop
           ∙ held-place (u .loop) (placedIn left) o t inside (getD-set-same (st .starts) o none none (omega (arith, inside))) s
 
   -- what is in the way gives back what it holds
-  held-without : (o t : ℕ) → heldOn (u .loop) (placedIn (st .starts)) s
+  pub held-without : (o t : ℕ) → heldOn (u .loop) (placedIn (st .starts)) s
       ≡ heldOn (u .loop) (placedIn (without u (st .starts) o t)) s + sumOf (λ p. cond (inTheWay u (st .starts) o t p) (opOn s (opAt (u .loop) p)) 0) (upFrom 0 (size (u .loop)))
   unfolding heldOn inTheWay
   held-without o t =

@@ -19,6 +19,15 @@ pub step-done : (u : Setup) (c : Call) (st : State) → firstRefusal (checks u c
 unfolding step
 step-done u c st e = ap (λ (o : Option Refusal). stepAs st (settled o (effect u c st))) e
 
+-- a call that is answered has passed its checks
+pub answered-passes : (u : Setup) (c : Call) (st : State) (r : Reply) → step u c st .1 ≡ answered r → firstRefusal (checks u c st) ≡ none
+unfolding step
+answered-passes u c st r e = pick (firstRefusal (checks u c st)) e
+  where
+    pick : (o : Option Refusal) → stepAs st (settled o (effect u c st)) .1 ≡ answered r → o ≡ none
+    pick none e = refl
+    pick (some q) e = let z : _≡_ {A = ℕ} 0 1 = cc in absurd (omega arith)
+
 -- a refused call changes nothing
 pub refused-same : (u : Setup) (c : Call) (st : State) (r : Refusal) → step u c st .1 ≡ refused r → step u c st .0 ≡ st
 unfolding step

@@ -146,3 +146,7 @@ module _ (before count : ℕ → ℕ) (next : (n : ℕ) → before (suc n) ≡ b
   pub total-few : (w n : ℕ) → before 0 ≡ 0 → ((o : ℕ) → o < n → count o ≤ w) → before n ≤ w * n
   total-few w zero z h = rw z (omega arith)
   total-few w (suc n) z h = rw (next n, mul-suc w n) (omega (arith, total-few w n z (λ o l. h o (omega arith)), h n (omega arith)))
+
+-- so the numbers of a row before k, and k, are among its first n
+pub sum-part : (f : ℕ → ℕ) (k n : ℕ) → k < n → sumOf f (upFrom 0 k) + f k ≤ sumOf f (upFrom 0 n)
+sum-part f = total-le (λ n. sumOf f (upFrom 0 n)) f (λ n. rw (add-one n) at (sum-next f n))
