@@ -2,10 +2,10 @@
 // be compared whole.
 //
 // What the header asks of a caller holds in each unsafe block: a pointer is that of a slice or an array, goes with its length
-// (eight numbers for an answer, 64 starts for a session), and what is written overlaps nothing.
+// (eight numbers for an answer, 64 starts and 24 numbers of free rows for a session), and what is written overlaps nothing.
 
 use crate::sys::{
-    mw_bounds, mw_plan, mw_read, mw_search, mw_session, mw_verify, mw_write, Answer,
+    mw_bounds, mw_plan, mw_read, mw_search, mw_session, mw_verify, mw_write, Answer, FreeRows,
     SessionStarts as Starts,
 };
 
@@ -26,6 +26,7 @@ pub struct Memory {
     pub result: usize,
     pub answer: Answer,
     pub starts: Starts,
+    pub free_rows: FreeRows,
     pub rows: Vec<u64>,
     pub replies: Vec<u64>,
     pub buffer: Vec<u8>,
@@ -38,6 +39,7 @@ impl Memory {
             result: usize::MAX,
             answer: [u64::MAX; 8],
             starts: [12345; 64],
+            free_rows: [12345; 24],
             rows: vec![u64::MAX; ROWS],
             replies: vec![u64::MAX; 2 * n],
             buffer: vec![255; FILE_MOST],
@@ -161,6 +163,7 @@ pub fn proved_session(file: &[u8], interval: usize, calls: &[u64], m: &mut Memor
             m.replies.as_mut_ptr(),
             m.replies.len(),
             &mut m.starts,
+            &mut m.free_rows,
             &mut m.answer,
         )
     };

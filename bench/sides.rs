@@ -100,12 +100,12 @@ pub fn rust_search(file: &[u8], horizon: usize, m: &mut Memory) {
 pub fn rust_session(file: &[u8], interval: usize, calls: &[u64], m: &mut Memory) {
     let ended = replay(
         file,
-        interval,
-        SESSION_HORIZON,
+        [interval, SESSION_HORIZON],
         calls,
         &mut m.rows,
         &mut m.replies,
         &mut m.starts,
+        &mut m.free_rows,
     );
     match ended {
         Ok(r) => m.accept(&[r.calls, r.checkpoints]),

@@ -7,8 +7,8 @@
  * - Any bytes, numbers and starts may be passed: what is out of range is refused, or has the result that the comment says.
  * - A list is a pointer and the number of elements behind it. No pointer may be null, even where the number is 0:
  *   pass the address of any object of that type.
- * - What is written (answer; buffer of mw_write; starts and rows of mw_search and mw_plan; rows, replies and starts of mw_session) may
- *   not overlap anything else that is passed to the same call. Nothing is kept after the call, and there is no hidden state.
+ * - What is written (answer; buffer of mw_write; starts and rows of mw_search and mw_plan; rows, replies, starts and free_rows of mw_session)
+ *   may not overlap anything else that is passed to the same call. Nothing is kept after the call, and there is no hidden state.
  *
  * For mw_read, mw_write, mw_bounds, mw_verify, mw_search, mw_plan and mw_session:
  * - The result is 0, or the number of the refusal, MW_REFUSED_...; the first check that fails gives it.
@@ -193,11 +193,13 @@ size_t mw_order(size_t interval, const uint16_t *starts, size_t starts_length, s
  *
  * What it leaves where the result is 0: starts[k] is the start of operation k, MW_NOT_PLACED where it is not placed and for every k that is
  * no operation's, so all 64 are written. Bit s - 1 of row r, for r below the interval, is 1 exactly where a placed operation covers slot s
- * in that row; later rows are as they were, and so is `replies` past the last call's. After a refusal rows, replies and starts are
- * as they were. */
+ * in that row; later rows are as they were, and so is `replies` past the last call's. free_rows[s - 1], for s from 1 to 24, is the number of
+ * rows below the interval in which slot s is free, that is in which bit s - 1 is 0; all 24 are written. It is the interval less the durations
+ * for which the placed operations hold the slot. After a refusal rows, replies, starts and free_rows are as they were. */
 size_t mw_session(
     const uint8_t *file, size_t file_length, size_t interval, size_t horizon, const uint64_t *calls, size_t calls_length,
-    uint64_t *rows, size_t rows_length, uint64_t *replies, size_t replies_length, uint16_t starts[64], uint64_t answer[8]);
+    uint64_t *rows, size_t rows_length, uint64_t *replies, size_t replies_length, uint16_t starts[64], uint16_t free_rows[24],
+    uint64_t answer[8]);
 
 #ifdef __cplusplus
 }

@@ -1,9 +1,9 @@
 //! The calls of a list, made one after the other on a session opened for them.
 
-use super::session::{Session, Starts};
+use super::session::{FreeRows, Session, Starts};
 use super::{check, refused, Refusal};
 
-/// What a replay came to, beside the replies, starts and rows.
+/// What a replay came to, beside the replies, starts, rows and free rows.
 #[derive(Clone, Copy, Debug, PartialEq)]
 pub struct Replayed {
     pub calls: usize,
@@ -11,16 +11,16 @@ pub struct Replayed {
     pub checkpoints: usize,
 }
 
-/// Makes the calls of a list, three numbers a call, and writes two numbers a call to the replies, and at the end all starts;
-/// or refuses the list as a whole, and writes nothing.
+/// Makes the calls of a list, three numbers a call, and writes two numbers a call to the replies, and at the end all starts
+/// and the free rows of all slots; or refuses the list as a whole, and writes nothing.
 pub fn replay(
     file: &[u8],
-    interval: usize,
-    horizon: usize,
+    [interval, horizon]: [usize; 2],
     calls: &[u64],
     rows: &mut [u64],
     replies: &mut [u64],
     starts: &mut Starts,
+    free_rows: &mut FreeRows,
 ) -> Result<Replayed, Refusal> {
     let number = check_calls(calls)?;
     check(replies.len() >= 2 * number, 254, replies.len())?;
@@ -33,6 +33,7 @@ pub fn replay(
         reply.copy_from_slice(&numbers);
     }
     *starts = *session.starts();
+    *free_rows = *session.free_rows();
     Ok(Replayed {
         calls: number,
         checkpoints: session.checkpoints(),

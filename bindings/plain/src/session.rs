@@ -1,5 +1,6 @@
 //! A session: a table of rows in which operations are placed, forced, removed and taken back. A call changes the rows of the
-//! operations that come or go and no others; a refused call changes nothing.
+//! operations that come or go and no others, and the numbers of free rows by their durations; a refused call changes
+//! nothing.
 
 use super::file::{read, Dependence, Operation, OPERATIONS_MOST};
 use super::legality::Place;
@@ -14,6 +15,9 @@ const CHECKPOINTS_MOST: usize = 16;
 /// The start of each operation; places past the last operation are not placed.
 pub type Starts = [u16; OPERATIONS_MOST];
 
+/// In how many rows each slot is free, slot 1 first.
+pub type FreeRows = [u16; 24];
+
 pub struct Session<'a> {
     operations: Vec<Operation>,
     /// The dependences of each operation, from it or to it, with their numbers and in the order of these.
@@ -22,6 +26,7 @@ pub struct Session<'a> {
     /// One row for each cycle of the interval.
     rows: &'a mut [u64],
     starts: Starts,
+    free_rows: FreeRows,
     /// For each open checkpoint, a copy of the starts.
     checkpoints: Vec<Starts>,
 }
@@ -53,6 +58,7 @@ impl<'a> Session<'a> {
             horizon,
             rows,
             starts: [NOT_PLACED; OPERATIONS_MOST],
+            free_rows: [interval as u16; 24],
             checkpoints: Vec::with_capacity(CHECKPOINTS_MOST),
         })
     }
@@ -60,6 +66,11 @@ impl<'a> Session<'a> {
     /// The starts.
     pub fn starts(&self) -> &Starts {
         &self.starts
+    }
+
+    /// In how many rows each slot is free.
+    pub fn free_rows(&self) -> &FreeRows {
+        &self.free_rows
     }
 
     /// How many checkpoints are open.
@@ -184,13 +195,21 @@ impl<'a> Session<'a> {
 
     /// Enters an operation at a start.
     fn put(&mut self, op: usize, start: u16) {
-        self.operations[op].reserve(start.into(), self.rows);
+        let operation = &self.operations[op];
+        operation.reserve(start.into(), self.rows);
+        for u in &operation.uses {
+            self.free_rows[usize::from(u.slot) - 1] -= u16::from(u.duration);
+        }
         self.starts[op] = start;
     }
 
     /// Takes a placed operation out.
     fn take_out(&mut self, op: usize) {
-        self.operations[op].release(self.starts[op].into(), self.rows);
+        let operation = &self.operations[op];
+        operation.release(self.starts[op].into(), self.rows);
+        for u in &operation.uses {
+            self.free_rows[usize::from(u.slot) - 1] += u16::from(u.duration);
+        }
         self.starts[op] = NOT_PLACED;
     }
 }

@@ -15,7 +15,7 @@
 //! | [`plan`] | a legal list of starts, found without a search where that is quick, and whether its interval is the smallest |
 //! | [`verify`] | the verdict on any proposed list of starts |
 //! | [`stage`], [`cycle`], [`order`] | where in the schedule an operation is |
-//! | [`replay`] | a session, in which operations are placed, forced, removed and taken back |
+//! | [`replay`] | a session, in which operations are placed, forced, removed and taken back, and in how many rows each slot is then free |
 //!
 //! Every function takes any bytes and numbers whatever. What it cannot answer it refuses, by a [`Refusal`] with a number
 //! and a detail. Where operations conflict, the verdict or the refusal says in which [`Place`]; where a [`Loop`] has no file,

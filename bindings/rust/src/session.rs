@@ -2,7 +2,7 @@
 
 use std::fmt;
 
-use crate::sys::{self, NOT_PLACED};
+use crate::sys::{self, FreeRows, NOT_PLACED};
 use crate::{read, Refusal, OPERATIONS_MOST, SEARCH_ROWS};
 
 /// One call of a session. Any number may be given: what is out of range is refused.
@@ -124,6 +124,9 @@ pub struct Replay {
     /// The reservation table at the end, one row for each cycle of the interval. Bit `s - 1` is set where a placed
     /// operation takes slot `s` in that cycle.
     pub rows: Vec<u64>,
+    /// In how many of these rows each slot is free. Element `s - 1` is the number of slot `s`, 1 to 24: the interval less the
+    /// durations for which the placed operations hold it.
+    pub free_rows: FreeRows,
 }
 
 /// Opens a session on a loop file at an interval, with starts below a horizon, and makes a list of calls one after the
@@ -147,6 +150,7 @@ pub struct Replay {
 /// assert_eq!(replay.starts, [None, None, Some(3)]);
 /// assert_eq!(replay.checkpoints, 1);
 /// assert_eq!(replay.rows, [1, 0, 0]);
+/// assert_eq!(replay.free_rows[..2], [2, 3]); // slots 1 and 2
 /// # Ok::<(), Box<dyn std::error::Error>>(())
 /// ```
 ///
@@ -165,6 +169,7 @@ pub fn replay(
     // As many rows as the interval asks for. One that is out of range is refused, and needs none.
     let mut rows = vec![0; interval.min(SEARCH_ROWS)];
     let mut starts = [NOT_PLACED; OPERATIONS_MOST];
+    let mut free_rows = [0; 24];
     let checkpoints = made(
         file,
         [interval, horizon],
@@ -172,12 +177,14 @@ pub fn replay(
         &mut rows,
         &mut replies,
         &mut starts,
+        &mut free_rows,
     )?;
     Ok(Replay {
         replies: decoded(calls, &replies),
         starts: placed(file, &starts),
         checkpoints,
         rows,
+        free_rows,
     })
 }
 
@@ -189,10 +196,11 @@ fn made(
     rows: &mut [u64],
     replies: &mut [u64],
     starts: &mut [u16; OPERATIONS_MOST],
+    free_rows: &mut FreeRows,
 ) -> Result<usize, Refusal> {
     let mut answer = [0; 8];
-    // SAFETY: the slices are valid for their own lengths and the array for its 64 starts; what is written is borrowed
-    // mutably, so it overlaps nothing, and nothing else points to the answer.
+    // SAFETY: the slices are valid for their own lengths and the arrays for their 64 starts and 24 numbers; what is written
+    // is borrowed mutably, so it overlaps nothing, and nothing else points to the answer.
     let result = unsafe {
         sys::mw_session(
             file.as_ptr(),
@@ -206,6 +214,7 @@ fn made(
             replies.as_mut_ptr(),
             replies.len(),
             starts,
+            free_rows,
             &mut answer,
         )
     };

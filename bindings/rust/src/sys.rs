@@ -26,6 +26,10 @@ pub type Answer = [u64; 8];
 /// The room for starts that [`mw_session`] writes: all of it, each time it returns 0.
 pub type SessionStarts = [u16; 64];
 
+/// In how many rows of a session's table each slot is free: element `s - 1` is the number of slot `s`, 1 to 24. [`mw_session`]
+/// writes all of them, each time it returns 0.
+pub type FreeRows = [u16; 24];
+
 /// The start that [`mw_session`] writes for an operation that is not placed, and for a number that is no operation's.
 pub const NOT_PLACED: u16 = 65535;
 
@@ -116,7 +120,8 @@ extern "C" {
     /// are open at the end.
     ///
     /// Each call has two numbers in `replies`: 0 and the value, or its refusal's number and detail; that of 17 is the
-    /// number of a place. The first `interval` rows become the table of the placed operations. `starts` is written in full.
+    /// number of a place. The first `interval` rows become the table of the placed operations. `starts` is written in full,
+    /// and so is `free_rows`, with the number of those rows in which each slot is free.
     ///
     /// Refusals: 255 for a call of another kind, then for a cut-off call; 254 where `replies` is too short; 1 to 6; 7;
     /// 20. A refusal writes nothing but the answer.
@@ -132,6 +137,7 @@ extern "C" {
         replies: *mut u64,
         replies_length: usize,
         starts: *mut SessionStarts,
+        free_rows: *mut FreeRows,
         answer: *mut Answer,
     ) -> usize;
 

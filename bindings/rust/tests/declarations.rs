@@ -97,6 +97,7 @@ fn rust_type(parameter: &str) -> String {
         ("uint64_t", name) if name.starts_with('*') => "*mut u64",
         ("uint64_t", name) if name.ends_with("[8]") => "*mut Answer",
         ("uint16_t", name) if name.ends_with("[64]") => "*mut SessionStarts",
+        ("uint16_t", name) if name.ends_with("[24]") => "*mut FreeRows",
         _ => panic!("no Rust type for {parameter}"),
     }
     .to_string()

@@ -1,5 +1,7 @@
-//! The worked examples of the rules, by number, and the listings of the example files, through the safe functions.
+//! The worked examples of the rules, by number, and the listings of the example files, through the safe functions; where it is
+//! about lent memory, through a raw one.
 
+use mwelitunga::sys::{mw_session, FreeRows};
 use mwelitunga::{
     bounds, plan, read, replay, search, verify, Bounds, Call, Counts, Place, Refusal, Reply,
     Request, Verdict,
@@ -439,6 +441,139 @@ fn a_refused_call_says_where() {
     };
     assert_eq!(reply, Err(refusal));
     assert_eq!(refusal.place(), Some(Place { cycle: 3, slot: 2 }));
+}
+
+/// The free rows of all slots at an interval, where some slots have these and the others the whole interval.
+fn free_but(interval: u16, slots: &[(usize, u16)]) -> FreeRows {
+    let mut free_rows = [interval; 24];
+    for &(slot, number) in slots {
+        free_rows[slot - 1] = number;
+    }
+    free_rows
+}
+
+#[test]
+fn an_open_session_has_all_rows_free() {
+    for interval in [1, 3, 4096] {
+        let opened = replay(&loop_a(), interval.into(), 256, &[]).unwrap();
+        assert_eq!(opened.free_rows, [interval; 24]);
+    }
+}
+
+#[test]
+fn free_rows_of_loop_a() {
+    let free_rows = |calls: &[Call]| replay(&loop_a(), 3, 256, calls).unwrap().free_rows;
+    let mut calls = vec![
+        Call::Place { op: 0, start: 0 },
+        Call::Place { op: 1, start: 2 },
+    ];
+    assert_eq!(free_rows(&calls), free_but(3, &[(1, 2), (2, 1)]));
+    calls.push(Call::Remove { op: 0 });
+    assert_eq!(free_rows(&calls), free_but(3, &[(2, 1)]));
+    calls.push(Call::Remove { op: 1 });
+    assert_eq!(free_rows(&calls), [3; 24]);
+}
+
+/// A loop for an interval of 5: operation 2 uses nothing, and operation 4 conflicts with itself.
+fn loop_of_holders() -> Vec<u8> {
+    file(
+        &[
+            (1, &[(1, 3), (24, 1)]),
+            (1, &[(1, 3), (2, 5)]),
+            (1, &[]),
+            (1, &[(1, 2)]),
+            (1, &[(3, 6)]),
+        ],
+        &[(0, 3, 0, 0)],
+    )
+}
+
+/// A call, its answer, and the free rows of the slots that do not have all rows free after it.
+type Step<'a> = (Call, Result<Reply, Refusal>, &'a [(usize, u16)]);
+
+#[test]
+fn free_rows_after_each_call() {
+    let place = |op, start| Call::Place { op, start };
+    let force = |op, start| Call::Force { op, start };
+    let remove = |op| Call::Remove { op };
+    let back = |checkpoint| Call::Rollback { checkpoint };
+    let done = Ok(Reply::Done);
+    let displaced = |mask| Ok(Reply::Displaced(mask));
+    let opened = |checkpoint| Ok(Reply::Checkpoint(checkpoint));
+    let refused = |number, detail| Err(Refusal { number, detail });
+    // With operation 0, wherever it starts; with operation 1; with 0 and 3.
+    let with_0 = &[(1, 5 - 3), (24, 5 - 1)];
+    let with_1 = &[(1, 5 - 3), (2, 5 - 5)];
+    let with_0_3 = &[(1, 5 - 3 - 2), (24, 5 - 1)];
+    let steps: [Step; 21] = [
+        (place(0, 4), done, with_0), // slot 1 in rows 4, 0 and 1
+        (place(2, 0), done, with_0),
+        (Call::Checkpoint, opened(1), with_0),
+        (place(1, 1), refused(17, 1), with_0),
+        (force(1, 1), displaced(0b0001), with_1),
+        (place(0, 0), refused(17, 32 + 1), with_1),
+        (place(5, 0), refused(12, 5), with_1),
+        (place(1, 1), refused(13, 1), with_1),
+        (place(3, 256), refused(15, 3), with_1),
+        (force(4, 0), refused(17, 5 * 32 + 3), with_1),
+        (remove(0), refused(14, 0), with_1),
+        (remove(1), done, &[]),
+        (place(0, 1), done, with_0), // slot 1 in rows 1, 2 and 3
+        (place(3, 0), refused(16, 0), with_0),
+        (place(3, 4), done, with_0_3), // and in rows 4 and 0
+        (Call::Checkpoint, opened(2), with_0_3),
+        (force(1, 9), displaced(0b1001), with_1),
+        (back(2), done, with_0_3),
+        (back(1), done, with_0), // operation 0 moves back to 4
+        (back(2), refused(19, 0), with_0),
+        (Call::Release, done, with_0),
+    ];
+    let calls = steps.map(|(call, _, _)| call);
+    for (number, (call, reply, slots)) in steps.into_iter().enumerate() {
+        let made = replay(&loop_of_holders(), 5, 256, &calls[..=number]).unwrap();
+        assert_eq!(made.replies[number], reply, "{call}");
+        assert_eq!(made.free_rows, free_but(5, slots), "{call}");
+    }
+}
+
+/// The result of a session that is lent three rows and makes one call, of a kind, about operation 1; and what it leaves of an
+/// array of other numbers that is lent for the free rows.
+fn lent_free_rows(file: &[u8], interval: usize, kind: u64) -> (usize, FreeRows) {
+    let calls = [kind, 1, 2];
+    let (mut rows, mut replies) = ([0; 3], [0; 2]);
+    let (mut starts, mut free_rows, mut answer) = ([0; 64], [12345; 24], [0; 8]);
+    // SAFETY: the arrays are valid for their lengths, and none overlaps another.
+    let result = unsafe {
+        mw_session(
+            file.as_ptr(),
+            file.len(),
+            interval,
+            256,
+            calls.as_ptr(),
+            calls.len(),
+            rows.as_mut_ptr(),
+            rows.len(),
+            replies.as_mut_ptr(),
+            replies.len(),
+            &mut starts,
+            &mut free_rows,
+            &mut answer,
+        )
+    };
+    (result, free_rows)
+}
+
+#[test]
+fn a_refused_session_leaves_the_free_rows_as_they_were() {
+    let file = loop_a();
+    let as_they_were = [12345; 24];
+    assert_eq!(lent_free_rows(&file, 3, 1), (0, free_but(3, &[(2, 1)])));
+    assert_eq!(lent_free_rows(&file, 3, 7), (255, as_they_were));
+    assert_eq!(lent_free_rows(&file[..49], 3, 1), (3, as_they_were));
+    assert_eq!(lent_free_rows(&file, 0, 1), (7, as_they_were));
+    assert_eq!(lent_free_rows(&file, 4, 1), (20, as_they_were));
+    // Where only a call is refused, here to remove what is not placed, the session is not.
+    assert_eq!(lent_free_rows(&file, 3, 3), (0, [3; 24]));
 }
 
 /// Interval and starts of a plan, whose starts are legal, and whether it is said to be smallest.

@@ -2,7 +2,7 @@
 use mathlib.Core.Path.{_≡_, refl, sym, ap, _∙_}
 use mathlib.Core.Bool.{Bool, true, false, cond}
 use mathlib.Core.List.{List, [], _∷_}
-use mathlib.Core.Logic.{_⊎_, inl, inr}
+use mathlib.Core.Logic.{inl, inr}
 use mathlib.Core.Option.{Option, none, some}
 use Prim.Native.Nat.{ℕ, zero, suc, _+_, _*_, _/_, _%_, _^_, _≤_, _<_}
 use denote.Enum.Declared.{tagOf}
@@ -15,10 +15,9 @@ use Rattle.model.specs.Lists.{upFrom, sumOf}
 use Rattle.model.specs.Refusals.{Refusal, firstRefusal, Answer, answered, refused}
 use Rattle.model.specs.Loop.{size, opAt, opOn}
 use Rattle.model.specs.File.{loopOf, Accepted}
-use Rattle.model.specs.Legality.{Placing}
 use Rattle.model.specs.Table.{number, freeOf, freeRows}
 use Rattle.model.specs.Counts.{heldOn}
-use Rattle.model.specs.Session.{Setup, Starts, State, Call, place, force, remove, Reply, done, displaced, placedIn, checks, effect, step, inTheWay, maskOf}
+use Rattle.model.specs.Session.{Starts, State, Call, place, force, remove, Reply, done, displaced, placedIn, checks, effect, inTheWay, maskOf}
 use Rattle.model.proofs.Lists.{sum-same}
 use Rattle.model.proofs.Sums.{sum-next}
 use Rattle.model.proofs.File.{accepted-ok}

@@ -12,7 +12,7 @@ use lib.ListN.{length, getD, set, length-set}
 use lib.Pow.{pow-pos, pow-mono}
 use lib.Seq.{getD-set-same, getD-set-other}
 use Rattle.model.specs.Lists.{upFrom, sumOf}
-use Rattle.model.specs.Loop.{Use, Op, Loop, noUse, size, opAt, useAt, useOn, opOn, UseOk}
+use Rattle.model.specs.Loop.{Use, Op, Loop, noUse, opAt, useAt, useOn, opOn, UseOk}
 use Rattle.model.proofs.Lists.{upFrom-split, sum-append, sum-none, sum-places}
 use Rattle.model.proofs.Sums.{sum-next, sum-part}
 use Rattle.free_rows.specs.Numbers.{Room, Moved, namedOn}

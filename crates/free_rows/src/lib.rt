@@ -73,12 +73,12 @@ pub fn place(
     requires { ⌜ («length_» ≤ length (now store)) × Board (take «length_» (now store)) interval horizon (now starts) (now rows) × (now free ≡ freeRows interval (now rows)) ⌝ }
     ensures { λ r. ⌜ Did (model.place op start) (take «length_» (now (store .entry))) interval horizon (now (starts .entry)) (now (rows .entry)) (now (starts .exit)) (now (rows .exit)) r × (now (free .exit) ≡ freeRows interval (now (rows .exit))) ⌝ }
 {
-    let reply = moves::place(store, length_, interval, horizon, op, start, starts, rows);
-    let Reply::Done = reply else {
-        return reply;
+    let placed = moves::place(store, length_, interval, horizon, op, start, starts, rows);
+    let Reply::Done = placed else {
+        return placed;
     };
     count(&store[..length_], op, true, free);
-    reply
+    placed
 }
 
 // Removes an operation, or says why not.
@@ -94,12 +94,12 @@ pub fn remove(
     requires { ⌜ («length_» ≤ length (now store)) × Board (take «length_» (now store)) interval 4096 (now starts) (now rows) × (now free ≡ freeRows interval (now rows)) ⌝ }
     ensures { λ r. ⌜ Removed (take «length_» (now (store .entry))) interval op (now (starts .entry)) (now (rows .entry)) (now (starts .exit)) (now (rows .exit)) r × (now (free .exit) ≡ freeRows interval (now (rows .exit))) ⌝ }
 {
-    let reply = moves::remove(store, length_, interval, op, starts, rows);
-    let Reply::Done = reply else {
-        return reply;
+    let removed = moves::remove(store, length_, interval, op, starts, rows);
+    let Reply::Done = removed else {
+        return removed;
     };
     count(&store[..length_], op, false, free);
-    reply
+    removed
 }
 
 // Forces an operation, or says why not.
@@ -117,12 +117,12 @@ pub fn force(
     requires { ⌜ («length_» ≤ length (now store)) × Board (take «length_» (now store)) interval horizon (now starts) (now rows) × (now free ≡ freeRows interval (now rows)) ⌝ }
     ensures { λ r. ⌜ Did (model.force op start) (take «length_» (now (store .entry))) interval horizon (now (starts .entry)) (now (rows .entry)) (now (starts .exit)) (now (rows .exit)) r × (now (free .exit) ≡ freeRows interval (now (rows .exit))) ⌝ }
 {
-    let reply = moves::force(store, length_, interval, horizon, op, start, starts, rows);
-    let Reply::Displaced(mask) = reply else {
-        return reply;
+    let forced = moves::force(store, length_, interval, horizon, op, start, starts, rows);
+    let Reply::Displaced(mask) = forced else {
+        return forced;
     };
     let file = &store[..length_];
     count_gone(file, mask, free);
     count(file, op, true, free);
-    reply
+    forced
 }

@@ -12,7 +12,7 @@ use Rattle.model.specs.File.{readFile, signedByte, firstUse, loopOf, len
 use Rattle.model.specs.Loop.{allUses}
 use Rattle.model.specs.Writer.{fieldsOf, fileBy, firstGiven, loopFrom, opUsesGivenChecks, usesGivenChecks, givenChecks, writeChecks, writeFile}
 use Rattle.model.specs.Legality.{holds, meets, firstBreach, cellsIn, footprint, share, conflict, selfConflict, apart, legalAt}
-use Rattle.model.specs.Table.{number, rowNumber, tableOf, cellsOf}
+use Rattle.model.specs.Table.{number, rowNumber, tableOf, cellsOf, freeOf, freeRows}
 use Rattle.model.specs.Bounds.{totalOn, resourceBound, Feasible, Closed, delayOf, distanceOf, Heavy, LowerIs, cyclic, within, BoundsIs, by-loop}
 use Rattle.model.specs.Search.{words, answer, probes, stageCount, lastOccupied, orderOf, listing, sweep, requestChecks, roomChecks, searchChecks, intervals, Request, Outcome, SearchIs, by-sweep}
 use Rattle.model.specs.Session.{Setup, Starts, Call, Reply, start, stateTable, openChecks, openFile, inTheWay, without, maskOf, step, after, replies}
@@ -25,7 +25,7 @@ use Rattle.model.proofs.Bounds.{refutes}
 
 -- to unfold this is to unfold every definition that the cases compute with
 computing : Unit {0}
-unfolding readFile fileChecks firstRefusal lengthChecks headChecks standsAt entryChecks contentsChecks opChecks useChecks opUseChecks usesChecks depChecks flatMap upFrom firstUse loopOf signedByte meets anyOf holds totalOn resourceBound sumOf maxOf delayOf distanceOf searchChecks requestChecks roomChecks sweep words answer probes first countIf pairs cellsIn footprint firstTaken share conflict selfConflict apart legalAt stageCount lastOccupied verifyFile proposalChecks proposedChecks firstBroken firstPair pairPlace verdict openFile openChecks firstBreach inTheWay without maskOf step after replies orderOf listing number rowNumber tableOf cellsOf allUses fieldsOf fileBy firstGiven loopFrom opUsesGivenChecks usesGivenChecks givenChecks writeChecks writeFile
+unfolding readFile fileChecks firstRefusal lengthChecks headChecks standsAt entryChecks contentsChecks opChecks useChecks opUseChecks usesChecks depChecks flatMap upFrom firstUse loopOf signedByte meets anyOf holds totalOn resourceBound sumOf maxOf delayOf distanceOf searchChecks requestChecks roomChecks sweep words answer probes first countIf pairs cellsIn footprint firstTaken share conflict selfConflict apart legalAt stageCount lastOccupied verifyFile proposalChecks proposedChecks firstBroken firstPair pairPlace verdict openFile openChecks firstBreach inTheWay without maskOf step after replies orderOf listing number rowNumber tableOf freeOf freeRows cellsOf allUses fieldsOf fileBy firstGiven loopFrom opUsesGivenChecks usesGivenChecks givenChecks writeChecks writeFile
 computing = tt
 
 -- ---- bounds
@@ -120,11 +120,11 @@ abbrev setupA : Setup
 setupA = record { loop = loopA; ii = 3; horizon = 256 }
 
 -- calls on it
-calls : {cs : List Call} {rs : List (Answer Reply)} {xs : Starts} {rows : List ℕ}
-    → replies setupA cs (start setupA) ≡ rs → after setupA cs (start setupA) .starts ≡ xs → stateTable setupA (after setupA cs (start setupA)) ≡ rows
-    → Called fileA 3 256 cs rs xs rows
+calls : {cs : List Call} {rs : List (Answer Reply)} {xs : Starts} {rows free : List ℕ}
+    → replies setupA cs (start setupA) ≡ rs → after setupA cs (start setupA) .starts ≡ xs → stateTable setupA (after setupA cs (start setupA)) ≡ rows → freeRows 3 rows ≡ free
+    → Called fileA 3 256 cs rs xs rows free
 unfolding computing
-calls answers starts table = record { setup = setupA; opens = refl; answers = answers; starts = starts; table = table }
+calls answers starts table numbers = record { setup = setupA; opens = refl; answers = answers; starts = starts; table = table; numbers = numbers }
 
 -- ---- the theorem
 
@@ -144,8 +144,8 @@ starred-hold =
     also case-8
     also case-9-seven also case-9-eight also case-9-nine
     also refl also refl
-    also calls refl refl refl also calls refl refl refl
-    also calls refl refl refl also calls refl refl refl
+    also calls refl refl refl refl also calls refl refl refl refl
+    also calls refl refl refl refl also calls refl refl refl refl
     also no-more
 
 -- and every case of the writer

@@ -1,15 +1,15 @@
 -- Free rows: of each slot a legal table leaves free what the placed operations do not hold, whatever their starts; so a call changes the number by the durations of what comes and goes. Assumes nothing.
 use mathlib.Core.Path.{_≡_, refl, sym, ap, _∙_, fun-ext}
-use mathlib.Core.Bool.{Bool, true, false, cond, _&&_, _||_}
-use mathlib.Core.List.{List, map}
+use mathlib.Core.Bool.{Bool, true, false, cond, _&&_}
+use mathlib.Core.List.{List, _++_, map}
 use mathlib.Core.Option.{Option, none, some}
 use Prim.Native.Nat.{ℕ, suc, _+_, _≤_, _<_}
 use native.Mathlib.Omega.{arith}
 use borrow.Author.Tests.{leb-false, not-false}
 use lib.Dec.{eqb}
-use lib.ListN.{length, getD, set, length-set}
-use lib.Seq.{take-all, getD-set-same, set-getD, set-set}
-use Rattle.model.specs.Lists.{upFrom, anyOf, countIf, sumOf}
+use lib.ListN.{length, getD, set, take, length-set}
+use lib.Seq.{take-at, take-all, getD-set-same, set-getD, set-set}
+use Rattle.model.specs.Lists.{upFrom, countIf, sumOf}
 use Rattle.model.specs.Refusals.{firstRefusal}
 use Rattle.model.specs.Loop.{Loop, noOp, size, opAt, opOn, LoopOk}
 use Rattle.model.specs.Legality.{Placing, placed, Cell, meets, apart, legalAt, placeAt}
@@ -75,11 +75,18 @@ pub free-same : (ii : ℕ) (rows xs : List ℕ) → length xs ≡ 24 → ((i : �
 unfolding freeRows
 free-same ii rows xs e h = sym (tabulate-is (freeOf ii rows) 1 24 xs 0 (sym e) (λ i l. let next : 1 + i ≡ suc i = omega arith in ap (freeOf ii rows) next ∙ sym (h i l)))
 
+-- later rows play no part
+pub free-take : (ii : ℕ) (xs ys : List ℕ) → take ii xs ≡ take ii ys → freeRows ii xs ≡ freeRows ii ys
+unfolding freeRows freeOf
+free-take ii xs ys e = ap (λ (zs : List ℕ). map (λ s. countIf (λ x. eqb (digitOf rowBase x s) 0) zs) (upFrom 1 24)) e
+
+pub free-front : (xs ys : List ℕ) (ii : ℕ) → length xs ≡ ii → freeRows ii (xs ++ ys) ≡ freeRows ii xs
+free-front xs ys ii e = free-take ii (xs ++ ys) xs (take-at xs ys ii e ∙ sym (take-all ii xs (omega arith)))
+
 -- rows that hold a table have its numbers
 pub free-table : (ii : ℕ) (cells : List Cell) (rows : List ℕ) → IsTable rowBase ii cells rows → freeRows ii rows ≡ freeRows ii (tableOf rowBase ii cells)
-unfolding freeRows freeOf
 free-table ii cells rows held =
-    ap (λ (xs : List ℕ). map (λ s. countIf (λ x. eqb (digitOf rowBase x s) 0) xs) (upFrom 1 24))
+    free-take ii rows (tableOf rowBase ii cells)
     (table-take rowBase ii cells rows held ∙ sym (take-all ii (tableOf rowBase ii cells) (omega (arith, length-table rowBase ii cells))))
 
 module _ (l : Loop) (ii : ℕ) (f : Placing) (rows : List ℕ) (ok : LoopOk l) (pos : 1 ≤ ii) (fine : legalAt l ii f ≡ true) (held : IsTable rowBase ii (cellsOf l ii f) rows) where

@@ -4,10 +4,12 @@ use mathlib.Core.List.{List, [], _∷_}
 use mathlib.Core.Option.{none, some}
 use Prim.Native.Nat.{ℕ}
 use lib.IntN.{ℤ, pos, negsuc}
+use lib.ListN.{replicate}
 use Rattle.model.specs.Refusals.{Answer, answered, refused}
 use Rattle.model.specs.Loop.{Use, Loop}
 use Rattle.model.specs.File.{readFile}
 use Rattle.model.specs.Writer.{fileWith, Fields, writeFile}
+use Rattle.model.specs.Table.{freeRows}
 use Rattle.model.specs.Bounds.{Lower, BoundsIs}
 use Rattle.model.specs.Search.{Request, Outcome, found, ended, SearchIs, Line, listing}
 use Rattle.model.specs.Session.{Setup, Starts, Call, place, force, remove, checkpoint, rollback, Reply, done, displaced, numbered, start, after, replies, openFile, stateTable}
@@ -16,7 +18,7 @@ use Rattle.model.specs.Verifier.{Verdict, isLegal, breach, clash, verify
 -- ---- what a case claims
 
 -- the reading of a file; what the writer answers for lists of numbers and the length of a buffer; a file's bounds; the verdict on a list of starts; what a
--- search answers, with 64 numbers and 4,096 rows lent; the listing of starts; and the replies, starts and rows of calls on a session opened with 4,096 rows lent
+-- search answers, with 64 numbers and 4,096 rows lent; the listing of starts; and the replies, starts, rows and numbers of free rows of calls on a session opened with 4,096 rows lent
 pub data Case : Type 0 where
   reads : (f : List ℕ) → Answer Loop → Case
   writes : Fields → (room : ℕ) → Answer (List ℕ) → Case
@@ -24,15 +26,16 @@ pub data Case : Type 0 where
   judged : (f : List ℕ) (ii : ℕ) (xs : List ℕ) → Answer Verdict → Case
   searched : (f : List ℕ) → Request → Answer Outcome → Case
   listed : (ii : ℕ) (xs : List ℕ) → List Line → Case
-  called : (f : List ℕ) (ii horizon : ℕ) → List Call → List (Answer Reply) → Starts → List ℕ → Case
+  called : (f : List ℕ) (ii horizon : ℕ) → List Call → List (Answer Reply) → Starts → (rows free : List ℕ) → Case
 
 -- that the calls were made on a session that opened, and what they left
-pub record Called (f : List ℕ) (ii horizon : ℕ) (cs : List Call) (rs : List (Answer Reply)) (xs : Starts) (rows : List ℕ) : Type 0 where
+pub record Called (f : List ℕ) (ii horizon : ℕ) (cs : List Call) (rs : List (Answer Reply)) (xs : Starts) (rows free : List ℕ) : Type 0 where
   pub setup : Setup
   pub opens : openFile f ii horizon 4096 ≡ answered setup
   pub answers : replies setup cs (start setup) ≡ rs
   pub starts : after setup cs (start setup) .starts ≡ xs
   pub table : stateTable setup (after setup cs (start setup)) ≡ rows
+  pub numbers : freeRows ii rows ≡ free
 
 -- the case holds
 abbrev pub CaseHolds : Case → Type 0
@@ -42,7 +45,7 @@ CaseHolds (bounded f a) = BoundsIs f a
 CaseHolds (judged f ii xs a) = verifyFile f ii xs ≡ a
 CaseHolds (searched f q a) = SearchIs f q 64 4096 a
 CaseHolds (listed ii xs ls) = listing ii xs ≡ ls
-CaseHolds (called f ii horizon cs rs xs rows) = Called f ii horizon cs rs xs rows
+CaseHolds (called f ii horizon cs rs xs rows free) = Called f ii horizon cs rs xs rows free
 
 infixr 20 _also_
 -- every case of the list holds: the first, and the others
@@ -168,14 +171,14 @@ starred =
     ∷ judged four 3 (0 ∷ []) (answered (clash 0 0 97))
     ∷ judged four 4 (0 ∷ []) (answered isLegal)
     -- 11
-    ∷ called fileA 3 256 (place 0 0 ∷ place 1 2 ∷ []) (answered done ∷ answered done ∷ []) (some 0 ∷ some 2 ∷ none ∷ []) (3 ∷ 0 ∷ 2 ∷ [])
+    ∷ called fileA 3 256 (place 0 0 ∷ place 1 2 ∷ []) (answered done ∷ answered done ∷ []) (some 0 ∷ some 2 ∷ none ∷ []) (3 ∷ 0 ∷ 2 ∷ []) (2 ∷ 1 ∷ replicate 22 3)
     ∷ called fileA 3 256 (place 0 0 ∷ place 1 2 ∷ remove 0 ∷ []) (answered done ∷ answered done ∷ answered done ∷ [])
-    (none ∷ some 2 ∷ none ∷ []) (2 ∷ 0 ∷ 2 ∷ [])
+    (none ∷ some 2 ∷ none ∷ []) (2 ∷ 0 ∷ 2 ∷ []) (3 ∷ 1 ∷ replicate 22 3)
     -- 12
     ∷ called fileA 3 256 (place 0 0 ∷ checkpoint ∷ force 2 3 ∷ []) (answered done ∷ answered (numbered 1) ∷ answered (displaced 1) ∷ [])
-    (none ∷ none ∷ some 3 ∷ []) (1 ∷ 0 ∷ 0 ∷ [])
+    (none ∷ none ∷ some 3 ∷ []) (1 ∷ 0 ∷ 0 ∷ []) (2 ∷ 3 ∷ replicate 22 3)
     ∷ called fileA 3 256 (place 0 0 ∷ checkpoint ∷ force 2 3 ∷ rollback 1 ∷ [])
-    (answered done ∷ answered (numbered 1) ∷ answered (displaced 1) ∷ answered done ∷ []) (some 0 ∷ none ∷ none ∷ []) (1 ∷ 0 ∷ 0 ∷ [])
+    (answered done ∷ answered (numbered 1) ∷ answered (displaced 1) ∷ answered done ∷ []) (some 0 ∷ none ∷ none ∷ []) (1 ∷ 0 ∷ 0 ∷ []) (2 ∷ 3 ∷ replicate 22 3)
     ∷ []
 
 -- ---- the writer

@@ -250,7 +250,7 @@ pub extern "C" fn mw_order(interval: usize, starts: &[u16], op: usize) -> usize
 }
 
 // A session opened for a list of calls, three numbers a call, and all of them made: the number of calls and of the checkpoints then open. The answer of each call, two numbers a
-// call, is in `replies`; what the calls leave is in `starts`, 65,535 where an operation is not placed, and in the table.
+// call, is in `replies`; what the calls leave is in `starts`, 65,535 where an operation is not placed, in `free`, for each slot how many rows have it free, and in the table.
 #[no_mangle]
 pub extern "C" fn mw_session(
     file: &[u8],
@@ -260,9 +260,10 @@ pub extern "C" fn mw_session(
     rows: &mut [u64],
     replies: &mut [u64],
     starts: &mut [u16; 64],
+    free: &mut [u16; 24],
     answer: &mut [u64; 8],
 ) -> usize
-    ensures { λ r. ⌜ Replayed (now (file .entry)) interval horizon (now (calls .entry)) (now (rows .entry)) (now (replies .entry)) (now (starts .entry)) (now (answer .entry)) r (now (rows .exit)) (now (replies .exit)) (now (starts .exit)) (now (answer .exit)) ⌝ }
+    ensures { λ r. ⌜ Replayed (now (file .entry)) interval horizon (now (calls .entry)) (now (rows .entry)) (now (replies .entry)) (now (starts .entry)) (now (free .entry)) (now (answer .entry)) r (now (rows .exit)) (now (replies .exit)) (now (starts .exit)) (now (free .exit)) (now (answer .exit)) ⌝ }
 {
     let checked = replay::unfit(calls, replies.len());
     let Checked::Fine = checked else {
@@ -275,9 +276,7 @@ pub extern "C" fn mw_session(
     };
     let n = calls.len() / 3;
     let begun = opening.session;
-    let s = replay::run(begun, rows, calls, n, replies);
-    let last = s.starts;
-    replay::write_starts(starts, &last.at);
-    write_answer(answer, 0, n, s.marks, 0, 0, 0);
+    let marks = replay::run(begun, rows, calls, n, replies, starts, free);
+    write_answer(answer, 0, n, marks, 0, 0, 0);
     0
 }

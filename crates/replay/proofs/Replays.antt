@@ -21,9 +21,9 @@ use Rattle.session.specs.declared.Session.{Session}
 use Rattle.board.specs.declared.Reply.{Reply}
 use Rattle.refusals.specs.declared.Checked.{Checked}
 use Rattle.refusals.specs.declared.Checked.the-variants as checked
-use Rattle.session.proofs.Calls.{stands-marks, run-then, run-count, from-open, ran}
+use Rattle.session.proofs.Calls.{stands-free, stands-marks, run-then, run-count, from-open, ran}
 use Rattle.replay.specs.Words.{written, numberOf, wordsOf}
-use Rattle.replay.specs.Replay.{callCount, callAt, firstCalls, callsOf, kindCheck, callChecks, replayFile, replyWords, allWords, startWords, endWords, repliesLeft, startsLeft, rowsLeft, Replayed, Made}
+use Rattle.replay.specs.Replay.{callCount, callAt, firstCalls, callsOf, kindCheck, callChecks, replayFile, replyWords, allWords, startWords, endWords, repliesLeft, startsLeft, freeLeft, rowsLeft, Replayed, Made}
 use Rattle.replay.proofs.Words.{written-more, words-length, words-then, starts-told}
 
 -- ---- whether a call has a kind
@@ -74,6 +74,12 @@ module _ (xs : List ℕ) (room : ℕ) where
 
 -- ---- calls one after the other
 
+-- calls made from s and rows lead to s′ and rows′, and the answers are written
+pub record Walked (cs : List Call) (s : Session) (rows old : List ℕ) (s′ : Session) (rows′ new : List ℕ) : Type 0 where
+  pub answers : List (Answer model.Reply)
+  pub run : Run s rows cs answers s′ rows′
+  pub words : new ≡ written 0 (allWords answers) old
+
 module _ (xs : List ℕ) where
   calls-then : (i : ℕ) → firstCalls xs (i + 1) ≡ firstCalls xs i ++ (callAt xs i ∷ [])
   calls-then i =
@@ -81,13 +87,13 @@ module _ (xs : List ℕ) where
       ∙ ap (λ (k : ℕ). firstCalls xs i ++ (callAt xs k ∷ [])) (omega arith)
 
   -- none yet
-  pub made-none : (s : Session) (rows old : List ℕ) → Made (firstCalls xs 0) s rows old s rows old
+  pub made-none : (s : Session) (rows old : List ℕ) → Walked (firstCalls xs 0) s rows old s rows old
   unfolding upFrom written allWords flatMap
   made-none s rows old = record { answers = []; run = stop; words = refl }
 
   -- one more
-  pub made-next : (i : ℕ) {s t t′ : Session} {rows rows′ rows″ old new new′ : List ℕ} {r : Reply} → Made (firstCalls xs i) s rows old t rows′ new
-      → Stepped (callAt xs i) t rows′ t′ rows″ r → new′ ≡ written (2 * i) (replyWords (replyOf r)) new → Made (firstCalls xs (i + 1)) s rows old t′ rows″ new′
+  pub made-next : (i : ℕ) {s t t′ : Session} {rows rows′ rows″ old new new′ : List ℕ} {r : Reply} → Walked (firstCalls xs i) s rows old t rows′ new
+      → Stepped (callAt xs i) t rows′ t′ rows″ r → new′ ≡ written (2 * i) (replyWords (replyOf r)) new → Walked (firstCalls xs (i + 1)) s rows old t′ rows″ new′
   made-next i {s} {t′ = t′} {rows} {rows″ = rows″} {old = old} {r = r} m t e =
       let rs = m .answers in
       let a = replyOf r in
@@ -106,25 +112,26 @@ module _ (xs : List ℕ) where
 pub opened-is : {f : List ℕ} {ii h : ℕ} {rows rows′ : List ℕ} {s : Session} {a x : Checked} → Opened f ii h rows s a rows′ → a ≡ x → Opened f ii h rows s x rows′
 opened-is {f} {ii} {h} {rows} {rows′} {s} o e = subst (λ (y : Checked). Opened f ii h rows s y rows′) e o
 
-module _ (f : List ℕ) (ii h : ℕ) (calls rows replies starts before after : List ℕ) where
+module _ (f : List ℕ) (ii h : ℕ) (calls rows replies starts free before after : List ℕ) where
   -- what the model says of it
   abbrev says : Answer Setup
   says = replayFile f ii h calls (length rows) (length replies)
 
   -- refused: nothing is written but the answer
   replayed-refused : (n d : ℕ) → says ≡ refused (record { number = n; detail = d }) → after ≡ written 0 (d ∷ 0 ∷ 0 ∷ 0 ∷ 0 ∷ 0 ∷ 0 ∷ 0 ∷ []) before
-      → Replayed f ii h calls rows replies starts before n rows replies starts after
+      → Replayed f ii h calls rows replies starts free before n rows replies starts free after
   replayed-refused n d e w =
       record {
         gives = record { number = ap numberOf (sym e); words = w ∙ ap (λ (a : Answer Setup). written 0 (wordsOf (endWords (callsOf calls)) a) before) (sym e) };
         replies-are = ap (λ (a : Answer Setup). repliesLeft (callsOf calls) a replies) (sym e);
         starts-are = ap (λ (a : Answer Setup). startsLeft (callsOf calls) a starts) (sym e);
+        free-are = ap (λ (a : Answer Setup). freeLeft (callsOf calls) a free) (sym e);
         rows-are = ap (λ (a : Answer Setup). rowsLeft (callsOf calls) a rows) (sym e);
       }
 
   -- for the calls
   pub calls-refused : (n d : ℕ) → firstRefusal (callChecks calls (length replies)) ≡ some (record { number = n; detail = d })
-      → after ≡ written 0 (d ∷ 0 ∷ 0 ∷ 0 ∷ 0 ∷ 0 ∷ 0 ∷ 0 ∷ []) before → Replayed f ii h calls rows replies starts before n rows replies starts after
+      → after ≡ written 0 (d ∷ 0 ∷ 0 ∷ 0 ∷ 0 ∷ 0 ∷ 0 ∷ 0 ∷ []) before → Replayed f ii h calls rows replies starts free before n rows replies starts free after
   unfolding replayFile
   calls-refused n d e w =
       replayed-refused n d (ap (λ (o : Option Refusal). settled o (setupAs f ii h)) (refusal-early (callChecks calls (length replies)) (openChecks f ii h (length rows)) _ e)) w
@@ -137,15 +144,15 @@ module _ (f : List ℕ) (ii h : ℕ) (calls rows replies starts before after : L
 
     -- by opening
     pub opening-refused : {n d : ℕ} {s : Session} {rows′ : List ℕ} → Opened f ii h rows s (checked.Refused n d) rows′
-        → after ≡ written 0 (d ∷ 0 ∷ 0 ∷ 0 ∷ 0 ∷ 0 ∷ 0 ∷ 0 ∷ []) before → Replayed f ii h calls rows replies starts before n rows′ replies starts after
+        → after ≡ written 0 (d ∷ 0 ∷ 0 ∷ 0 ∷ 0 ∷ 0 ∷ 0 ∷ 0 ∷ []) before → Replayed f ii h calls rows replies starts free before n rows′ replies starts free after
     opening-refused {n} {d} o w =
         rw (o .rows-are ∙ ap (λ (a : Answer Setup). openRows a rows) (sym (o .says))) (replayed-refused n d (as-opened ∙ sym (o .says)) w)
 
     -- all calls made
-    pub all-made : {s t : Session} {rows₁ rows′ replies′ starts′ : List ℕ} → Opened f ii h rows s checked.Fine rows₁ → Made (callsOf calls) s rows₁ replies t rows′ replies′
-        → starts′ ≡ written 0 (t .starts .at) starts → after ≡ written 0 (0 ∷ callCount calls ∷ t .marks ∷ 0 ∷ 0 ∷ 0 ∷ 0 ∷ 0 ∷ []) before
-        → Replayed f ii h calls rows replies starts before 0 rows′ replies′ starts′ after
-    all-made {t = t} o m q w =
+    pub all-made : {s : Session} {rows₁ rows′ replies′ starts′ free′ : List ℕ} {marks : ℕ} → Opened f ii h rows s checked.Fine rows₁
+        → Made (callsOf calls) s rows₁ replies marks rows′ replies′ starts′ free′ → after ≡ written 0 (0 ∷ callCount calls ∷ marks ∷ 0 ∷ 0 ∷ 0 ∷ 0 ∷ 0 ∷ []) before
+        → Replayed f ii h calls rows replies starts free before 0 rows′ replies′ starts′ free′ after
+    all-made o m w =
         let u : Setup = setupAs f ii h in
         let cs : List Call = callsOf calls in
         let b = ran (from-open o) (m .run) in
@@ -155,14 +162,17 @@ module _ (f : List ℕ) (ii h : ℕ) (calls rows replies starts before after : L
               record {
                 number = ap numberOf (sym e);
                 words =
-                    w ∙ ap₂ (λ (n k : ℕ). written 0 (0 ∷ n ∷ k ∷ 0 ∷ 0 ∷ 0 ∷ 0 ∷ 0 ∷ []) before) (sym (length-tabulate (callAt calls) 0 (callCount calls))) (stands-marks (b .1))
+                    w
+                    ∙ ap₂ (λ (n k : ℕ). written 0 (0 ∷ n ∷ k ∷ 0 ∷ 0 ∷ 0 ∷ 0 ∷ 0 ∷ []) before) (sym (length-tabulate (callAt calls) 0 (callCount calls)))
+                    (m .marks-are ∙ stands-marks (b .1))
                     ∙ ap (λ (a : Answer Setup). written 0 (wordsOf (endWords cs) a) before) (sym e);
               };
           replies-are =
               m .words ∙ ap (λ (rs : List (Answer model.Reply)). written 0 (allWords rs) replies) (b .0)
               ∙ ap (λ (a : Answer Setup). repliesLeft cs a replies) (sym e);
           starts-are =
-              q ∙ ap (λ (xs : List ℕ). written 0 xs starts) (starts-told (b .1 .valid))
-              ∙ ap (λ (st : State). written 0 (startWords (st .starts)) starts) (b .1 .state) ∙ ap (λ (a : Answer Setup). startsLeft cs a starts) (sym e);
+              m .starts-are ∙ starts-told (b .1 .valid) ∙ ap (λ (st : State). startWords (st .starts)) (b .1 .state)
+              ∙ ap (λ (a : Answer Setup). startsLeft cs a starts) (sym e);
+          free-are = m .free-are ∙ stands-free (b .1) ∙ ap (λ (a : Answer Setup). freeLeft cs a free) (sym e);
           rows-are = b .1 .rows-are ∙ ap (λ (a : Answer Setup). rowsLeft cs a rows) (sym e);
         }

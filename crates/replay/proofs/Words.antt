@@ -1,15 +1,14 @@
 -- Numbers written one after the other into a list, and answers and starts as numbers. Assumes nothing.
-use mathlib.Core.Path.{_≡_, refl, sym, ap, ap₂, _∙_}
+use mathlib.Core.Path.{_≡_, refl, sym, ap, _∙_}
 use mathlib.Core.Bool.{Bool, true, false, cond}
 use mathlib.Core.List.{List, [], _∷_, _++_, map, flatMap, append-nil, append-assoc}
 use mathlib.Core.Option.{none, some}
-use Prim.Native.Nat.{ℕ, suc, _+_, _*_, _≤_, _<_}
-use native.Mathlib.Nat.{suc-ne-zero}
+use Prim.Native.Nat.{ℕ, suc, _+_, _*_}
 use native.Mathlib.Omega.{arith}
 use borrow.Author.Tests.{eqb-true}
 use lib.Dec.{eqb}
-use lib.ListN.{length, getD, set, drop, length-set, length-append, drop-of-length-le}
-use lib.Seq.{drop-cons, set-at, ext-getD, append-snoc}
+use lib.ListN.{length, getD, set, length-set, length-append}
+use lib.Seq.{ext-getD}
 use Rattle.model.specs.Lists.{upFrom}
 use Rattle.model.specs.Refusals.{Answer, answered, refused}
 use Rattle.model.specs.Legality.{Placing}
@@ -37,31 +36,6 @@ unfolding written
 written-more i [] us old = ap (λ (k : ℕ). written k us old) (omega arith)
 written-more i (w ∷ ws) us old =
     written-more (suc i) ws us (set old i w) ∙ ap (λ (k : ℕ). written k us (written (suc i) ws (set old i w))) (omega arith)
-
--- of a list written place by place: the number at place i, and then those after it
-pub written-rest : (i : ℕ) (ws old : List ℕ) → i < length ws → written (i + 1) (drop (i + 1) ws) (set old i (getD ws i 0)) ≡ written i (drop i ws) old
-unfolding written
-written-rest i ws old l =
-    ap (λ (k : ℕ). written k (drop k ws) (set old i (getD ws i 0))) {x = i + 1} {y = suc i} (omega arith)
-    ∙ ap (λ (r : List ℕ). written i r old) (sym (drop-cons ws i 0 l))
-
--- none is left
-pub written-end : (i : ℕ) (ws old : List ℕ) → length ws ≤ i → written i (drop i ws) old ≡ old
-unfolding written
-written-end i ws old l = ap (λ (r : List ℕ). written i r old) (drop-of-length-le ws l)
-
--- as many as there are places: then they are the list
-pub written-all : (ws old : List ℕ) → length old ≡ length ws → written 0 ws old ≡ ws
-unfolding written
-written-all ws old e = go [] ws old e
-  where
-    go : (p ws old : List ℕ) → length old ≡ length ws → written (length p) ws (p ++ old) ≡ p ++ ws
-    go p [] [] e = refl
-    go p [] (o ∷ os) e = absurd (suc-ne-zero (length os) e)
-    go p (w ∷ ws) [] e = absurd (suc-ne-zero (length ws) (sym e))
-    go p (w ∷ ws) (o ∷ os) e =
-        ap₂ (λ (k : ℕ) (r : List ℕ). written k ws r) (omega (arith, length-append p (w ∷ []))) (set-at p o os w (length p) refl ∙ sym (append-snoc p w os))
-        ∙ go (p ++ (w ∷ [])) ws os (omega (arith, e)) ∙ append-snoc p w ws
 
 -- ---- answers as numbers
 
@@ -92,10 +66,10 @@ word-seat x = pick (eqb x 65535) refl
     pick true e = sym (eqb-true x 65535 e)
     pick false e = refl
 
-pub starts-told : {s : Session} {rows : List ℕ} → Valid s rows → s .starts .at ≡ startWords (stateOf s .starts)
+pub starts-told : {s : Session} {rows : List ℕ} → Valid s rows → s .starts ≡ startWords (stateOf s .starts)
 unfolding startWords
 starts-told {s} v =
-    let xs : List ℕ = s .starts .at in
+    let xs : List ℕ = s .starts in
     let whole = v .board .sane .whole in
     let same : placedIn (stateOf s .starts) ≡ seats xs = same-seats (fileOf s) xs (v .board .accepted) whole (v .board .sane .blank) in
     ext-getD 65535 xs (map (λ o. startWord (placedIn (stateOf s .starts) o)) (upFrom 0 64)) (whole ∙ sym (length-tabulate (λ o. startWord (placedIn (stateOf s .starts) o)) 0 64)) (λ i l.

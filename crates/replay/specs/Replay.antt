@@ -7,6 +7,7 @@ use lib.Dec.{ltb}
 use lib.ListN.{length, getD, drop}
 use Rattle.model.specs.Lists.{upFrom}
 use Rattle.model.specs.Refusals.{Check, check, outside, Answer, answered, refused, settle}
+use Rattle.model.specs.Table.{freeRows}
 use Rattle.model.specs.Session.{Setup, Starts, Call, Reply, done, displaced, numbered, stateTable, openChecks, start, after, replies}
 use Rattle.board.specs.Board.{setupAs}
 use Rattle.replay.specs.Parts.{callOf}
@@ -81,8 +82,13 @@ repliesLeft cs (refused r) old = old
 
 -- the starts afterwards, likewise
 abbrev pub startsLeft : List Call → Answer Setup → List ℕ → List ℕ
-startsLeft cs (answered u) old = written 0 (startWords (after u cs (start u) .starts)) old
+startsLeft cs (answered u) old = startWords (after u cs (start u) .starts)
 startsLeft cs (refused r) old = old
+
+-- the numbers of free rows afterwards: those of the table of those starts
+abbrev pub freeLeft : List Call → Answer Setup → List ℕ → List ℕ
+freeLeft cs (answered u) old = freeRows (u .ii) (stateTable u (after u cs (start u)))
+freeLeft cs (refused r) old = old
 
 -- the rows afterwards: the table of those starts, and later rows as they were
 abbrev pub rowsLeft : List Call → Answer Setup → List ℕ → List ℕ
@@ -90,16 +96,21 @@ rowsLeft cs (answered u) old = stateTable u (after u cs (start u)) ++ drop (u .i
 rowsLeft cs (refused r) old = old
 
 -- a session opened and all calls made on it, with any file, numbers and lists: the model's run over the whole list
-pub record Replayed (f : List ℕ) (ii h : ℕ) (calls rows replies starts before : List ℕ) (r : ℕ) (rows′ replies′ starts′ after : List ℕ) : Type 0 where
+pub record Replayed (f : List ℕ) (ii h : ℕ) (calls rows replies starts free before : List ℕ) (r : ℕ) (rows′ replies′ starts′ free′ after : List ℕ) : Type 0 where
   pub gives : Gives (replayFile f ii h calls (length rows) (length replies)) (endWords (callsOf calls)) r before after
   pub replies-are : replies′ ≡ repliesLeft (callsOf calls) (replayFile f ii h calls (length rows) (length replies)) replies
   pub starts-are : starts′ ≡ startsLeft (callsOf calls) (replayFile f ii h calls (length rows) (length replies)) starts
+  pub free-are : free′ ≡ freeLeft (callsOf calls) (replayFile f ii h calls (length rows) (length replies)) free
   pub rows-are : rows′ ≡ rowsLeft (callsOf calls) (replayFile f ii h calls (length rows) (length replies)) rows
 
 -- ---- the walk over the calls
 
--- calls made one after the other from s and rows, with the answers written from place 0 on
-pub record Made (cs : List Call) (s : Session) (rows old : List ℕ) (s′ : Session) (rows′ new : List ℕ) : Type 0 where
+-- calls made one after the other from s and rows, with the answers written from place 0 on: marks, xs and free are the open checkpoints, the starts and the numbers of the session that they lead to
+pub record Made (cs : List Call) (s : Session) (rows old : List ℕ) (marks : ℕ) (rows′ new xs free : List ℕ) : Type 0 where
+  pub last : Session
   pub answers : List (Answer Reply)
-  pub run : Run s rows cs answers s′ rows′
+  pub run : Run s rows cs answers last rows′
   pub words : new ≡ written 0 (allWords answers) old
+  pub marks-are : marks ≡ last .marks
+  pub starts-are : xs ≡ last .starts
+  pub free-are : free ≡ last .free

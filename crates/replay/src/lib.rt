@@ -4,6 +4,7 @@ mod parts;
 
 use board::Reply;
 use refusals::Checked;
+use session::Kept;
 use session::Session;
 ghost use mathlib.Core.Path.{_≡_};
 ghost use mathlib.Core.List.{[], _∷_, flatMap};
@@ -90,15 +91,26 @@ fn place_of(m: usize, marks: usize) -> usize
     m - 1
 }
 
-// The first n calls, one after the other, with their answers. The session is changed where it stands.
-pub fn run(s: Session, rows: &mut [u64], calls: &[u64], n: usize, replies: &mut [u64]) -> Session
+// The first n calls, one after the other, with their answers; the checkpoints that are open then. The calls are made on starts and numbers in the lent arrays, whatever they held; what a checkpoint
+// keeps is taken out for a rollback alone.
+pub fn run(
+    s: Session,
+    rows: &mut [u64],
+    calls: &[u64],
+    n: usize,
+    replies: &mut [u64],
+    starts: &mut [u16; 64],
+    free: &mut [u16; 24],
+) -> usize
     requires { ⌜ Valid s (now rows) × (3 * n ≤ length (now calls)) × (2 * n ≤ length (now replies)) ⌝ }
-    ensures { λ r. ⌜ Made (firstCalls (now (calls .entry)) n) s (now (rows .entry)) (now (replies .entry)) r (now (rows .exit)) (now (replies .exit)) ⌝ }
+    ensures { λ r. ⌜ Made (firstCalls (now (calls .entry)) n) s (now (rows .entry)) (now (replies .entry)) r (now (rows .exit)) (now (replies .exit)) (now (starts .exit)) (now (free .exit)) ⌝ }
 {
     let mut t = s;
+    *starts = t.starts;
+    *free = t.free;
+    let mut wanted = t.saved[0];
     let mut i = 0;
     while i < n {
-        let to = 2 * i;
         let kind = calls[3 * i];
         let a = calls[3 * i + 1] as usize;
         let b = calls[3 * i + 2] as usize;
@@ -106,9 +118,9 @@ pub fn run(s: Session, rows: &mut [u64], calls: &[u64], n: usize, replies: &mut 
         let interval = t.interval;
         let horizon = t.horizon;
         let marks = t.marks;
-        let at = place_of(a, marks);
-        let wanted = t.saved[at];
-        let mut starts = t.starts;
+        if kind == 6 {
+            wanted = t.saved[place_of(a, marks)];
+        }
         let turn = parts::make(
             &t.file,
             length,
@@ -118,30 +130,22 @@ pub fn run(s: Session, rows: &mut [u64], calls: &[u64], n: usize, replies: &mut 
             kind,
             a,
             b,
-            &wanted.at,
-            &mut starts.at,
+            &wanted.starts,
+            &wanted.free,
+            starts,
             rows,
+            free,
         );
         if marks < turn.marks {
-            t.saved[marks] = starts;
+            t.saved[marks] = Kept {
+                starts: *starts,
+                free: *free,
+            };
         }
-        t.starts = starts;
         t.marks = turn.marks;
         let reply = turn.reply;
-        write_reply(replies, to, reply);
+        write_reply(replies, 2 * i, reply);
         i = i + 1;
     }
-    t
-}
-
-// All 64 starts.
-pub fn write_starts(starts: &mut [u16; 64], from: &[u16; 64])
-    requires { ⌜ length (now from) ≡ 64 ⌝ }
-    ensures { λ _. ⌜ now (starts .exit) ≡ written 0 (now (from .entry)) (now (starts .entry)) ⌝ }
-{
-    let mut i = 0;
-    while i < 64 {
-        starts[i] = from[i];
-        i = i + 1;
-    }
+    t.marks
 }

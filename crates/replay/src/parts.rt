@@ -1,4 +1,4 @@
-// A call by number, made on the parts of a session where they stand: a session has 4 KB, and a caller that makes many calls need not hand it over for each. Internal: the six calls of `session` say the same of a whole session.
+// A call by number, made on the parts of a session where they stand: a session has almost 5 KB, and a caller that makes many calls need not hand it over for each. Internal: the six calls of `session` say the same of a whole session.
 use board::Reply;
 use board::moves;
 ghost use mathlib.Core.Path.{_≡_};
@@ -10,9 +10,9 @@ pub struct Step {
     pub reply: Reply,
 }
 
-// Makes the call of a kind: 1 place(a, b), 2 force(a, b), 3 remove(a), 4 checkpoint, 5 release, 6 rollback(a). `wanted` are the starts of checkpoint a, where it is open. Where there are
-// more checkpoints afterwards, the caller has to keep the starts as those of the new one.
-pub fn make(
+// Makes the call of a kind: 1 place(a, b), 2 force(a, b), 3 remove(a), 4 checkpoint, 5 release, 6 rollback(a). For a rollback, `wanted` and `wanted_free` are the starts and the numbers
+// of checkpoint a, where it is open. Where there are more checkpoints afterwards, the caller has to keep starts and numbers as those of the new one.
+pub fn make<'a>(
     store: &[u8],
     length_: usize,
     interval: usize,
@@ -21,29 +21,31 @@ pub fn make(
     kind: u64,
     a: usize,
     b: usize,
-    wanted: &[u16; 64],
+    wanted: &'a [u16; 64],
+    wanted_free: &'a [u16; 24],
     starts: &mut [u16; 64],
     rows: &mut [u64],
+    free: &mut [u16; 24],
 ) -> Step
-    requires { ⌜ StepReady (now store) «length_» interval horizon marks a (now wanted) (now starts) (now rows) ⌝ }
-    ensures { λ r. ⌜ StepMade (now (store .entry)) «length_» interval horizon marks kind a b (now (wanted .entry)) (now (starts .entry)) (now (rows .entry)) (now (starts .exit)) (now (rows .exit)) (r .marks) (r .reply) ⌝ }
+    requires { ⌜ StepReady (now store) «length_» interval horizon marks kind a (now wanted) (now «wanted_free») (now starts) (now rows) (now free) ⌝ }
+    ensures { λ r. ⌜ StepMade (now (store .entry)) «length_» interval horizon marks kind a b (now (wanted .entry)) (now («wanted_free» .entry)) (now (starts .entry)) (now (rows .entry)) (now (free .entry)) (now (starts .exit)) (now (rows .exit)) (now (free .exit)) (r .marks) (r .reply) ⌝ }
 {
     if kind == 1 {
         return told(
             marks,
-            moves::place(store, length_, interval, horizon, a, b, starts, rows),
+            free_rows::place(store, length_, interval, horizon, a, b, starts, rows, free),
         );
     }
     if kind == 2 {
         return told(
             marks,
-            moves::force(store, length_, interval, horizon, a, b, starts, rows),
+            free_rows::force(store, length_, interval, horizon, a, b, starts, rows, free),
         );
     }
     if kind == 3 {
         return told(
             marks,
-            moves::remove(store, length_, interval, a, starts, rows),
+            free_rows::remove(store, length_, interval, a, starts, rows, free),
         );
     }
     if kind == 4 {
@@ -52,7 +54,7 @@ pub fn make(
         }
         return told(marks + 1, Reply::Numbered(marks + 1));
     }
-    if kind == 5 {
+    if kind != 6 {
         if marks == 0 {
             return told(marks, Reply::Refused(19, 0));
         }
@@ -65,6 +67,8 @@ pub fn make(
         return told(marks, Reply::Refused(19, 0));
     }
     moves::restore(store, length_, interval, wanted, starts, rows);
+    let back = *wanted_free;
+    *free = back;
     told(a, Reply::Done)
 }
 

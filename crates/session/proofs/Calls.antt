@@ -10,13 +10,14 @@ use lib.Seq.{length-take-le, take-at, drop-at}
 use Rattle.model.specs.Refusals.{Refusal, firstRefusal, Answer, answered, settled}
 use Rattle.model.specs.Loop.{LoopOk}
 use Rattle.model.specs.File.{loopOf}
-use Rattle.model.specs.Table.{rowBase, coveredAt, digitOf}
+use Rattle.model.specs.Table.{rowBase, coveredAt, digitOf, freeRows}
 use Rattle.model.specs.Session.{Setup, State, Call, checkpoint, rollback, done, numbered, placedIn, stateTable, openChecks, openFile, openRows, start, step, after, replies}
 use Rattle.model.specs.Session as model
 use Rattle.model.specs.Undo.{NoneGives, markedBy, placings, OrderOf, AllDone}
 use Rattle.model.proofs.File.{accepted-ok}
 use Rattle.model.proofs.Table.{length-table, bit-covered}
 use Rattle.model.proofs.Table.{bits-end as table-end}
+use Rattle.model.proofs.Free.{free-front}
 use Rattle.model.proofs.Undo.{back-to, back-pure, start-table, replay}
 use Rattle.model.proofs.Good.{Good, good-run}
 use Rattle.reservation.specs.Seats.{seats}
@@ -37,6 +38,7 @@ pub record Stands (u : Setup) (st : State) (rest : List ℕ) (s : Session) (rows
   pub state : stateOf s ≡ st
   pub setup : setupOf s ≡ u
   pub rows-are : rows ≡ stateTable u st ++ rest
+  pub free-are : s .free ≡ freeRows (u .ii) rows
   pub valid : Valid s rows
 
 module _ {u : Setup} {st : State} {rest : List ℕ} {s : Session} {rows : List ℕ} (a : Stands u st rest s rows) where
@@ -46,6 +48,10 @@ module _ {u : Setup} {st : State} {rest : List ℕ} {s : Session} {rows : List �
 
   stands-drop : drop (u .ii) rows ≡ rest
   stands-drop = ap (drop (u .ii)) (a .rows-are) ∙ drop-at (stateTable u st) rest (u .ii) (length-table 2 (u .ii) _)
+
+  -- its numbers are those of its table
+  pub stands-free : s .free ≡ freeRows (u .ii) (stateTable u st)
+  stands-free = a .free-are ∙ ap (freeRows (u .ii)) (a .rows-are) ∙ free-front (stateTable u st) rest (u .ii) (length-table 2 (u .ii) _)
 
   -- as many checkpoints are open as it counts
   pub stands-marks : s .marks ≡ length (st .checkpoints)
@@ -62,6 +68,7 @@ stepped-stands {s} {rows} t = record {
   state = t .state;
   setup = t .setup;
   rows-are = t .rows-are ∙ ap (λ (x : State). stateTable (setupOf s) x ++ drop (s .interval) rows) (t .state);
+  free-are = t .free-are;
   valid = t .valid;
 }
 
@@ -117,6 +124,7 @@ from-open {f} {ii} {h} {rows₀} {s} o =
       state = o .state u a;
       setup = e;
       rows-are = o .rows-are ∙ ap (λ (x : Answer Setup). openRows x rows₀) a ∙ ap (λ (x : List ℕ). x ++ drop ii rows₀) (sym (start-table u));
+      free-are = o .free u a;
       valid = o .valid u a;
     }
   where
@@ -127,8 +135,8 @@ from-open {f} {ii} {h} {rows₀} {s} o =
 -- ---- what demand 3 says
 
 -- the placing that the model reads off a session is that of its array
-valid-placed : {s : Session} {rows : List ℕ} → Valid s rows → placedIn (stateOf s .starts) ≡ seats (s .starts .at)
-valid-placed {s} v = same-seats (fileOf s) (s .starts .at) (v .board .accepted) (v .board .sane .whole) (v .board .sane .blank)
+valid-placed : {s : Session} {rows : List ℕ} → Valid s rows → placedIn (stateOf s .starts) ≡ seats (s .starts)
+valid-placed {s} v = same-seats (fileOf s) (s .starts) (v .board .accepted) (v .board .sane .whole) (v .board .sane .blank)
 
 -- what the bits of its rows say, with setup u
 abbrev BitsAre : Setup → Session → List ℕ → Type 0
@@ -139,50 +147,56 @@ BitsAre u s rows =
 valid-bits : {s : Session} {rows : List ℕ} → Valid s rows → BitsAre (setupOf s) s rows
 valid-bits {s} {rows} v =
     let l = loopOf (fileOf s) in
-    let d = legal-digits l (s .interval) (seats (s .starts .at)) (accepted-ok (fileOf s) (v .board .accepted)) (v .board .sane .fine) in (
-      λ slot row m lo hi. rw (valid-placed v) (bit-covered l (s .interval) (seats (s .starts .at)) rows (v .board .held) d slot row m lo hi),
+    let d = legal-digits l (s .interval) (seats (s .starts)) (accepted-ok (fileOf s) (v .board .accepted)) (v .board .sane .fine) in (
+      λ slot row m lo hi. rw (valid-placed v) (bit-covered l (s .interval) (seats (s .starts)) rows (v .board .held) d slot row m lo hi),
       table-end (s .interval) _ rows (v .board .held) d,
     )
 
--- rolling back to a checkpoint m since which no call answered m gives the very state and rows of then
+-- rolling back to a checkpoint m since which no call answered m gives the very state, rows and numbers of then
 very-back : {s s₁ s₂ s′ : Session} {rows rows₁ rows₂ rows′ : List ℕ} {r₁ r : Reply} {cs₂ : List Call} {rs₂ : List (Answer model.Reply)} (m : ℕ)
     → Stepped checkpoint s₁ rows₁ s₂ rows₂ r₁ → replyOf r₁ ≡ answered (numbered m) → Run s₂ rows₂ cs₂ rs₂ s rows → NoneGives m rs₂
-    → m ≤ s .marks → Stepped (rollback m) s rows s′ rows′ r → (stateOf s′ ≡ stateOf s₂) × (rows′ ≡ rows₂)
+    → m ≤ s .marks → Stepped (rollback m) s rows s′ rows′ r
+    → (stateOf s′ ≡ stateOf s₂) × (rows′ ≡ rows₂) × (s′ .free ≡ s₂ .free)
 very-back {s₁} {rows₁} {cs₂} m t e run still high t′ =
     let u : Setup = setupOf s₁ in
     let a = stepped-stands t in
     let b = ran a run in
     let d = step-stands (b .1) t′ .1 in
     let same = back-pure u m cs₂ (stateOf s₁) (sym (t .reply) ∙ e) (subst (NoneGives m) (b .0) still) (omega (arith, stands-marks (b .1))) in
-    (d .state ∙ same ∙ sym (a .state), d .rows-are ∙ ap (λ (x : State). stateTable u x ++ drop (s₁ .interval) rows₁) same ∙ sym (a .rows-are))
+    let rows-same = d .rows-are ∙ ap (λ (x : State). stateTable u x ++ drop (s₁ .interval) rows₁) same ∙ sym (a .rows-are) in
+    (d .state ∙ same ∙ sym (a .state), rows-same, d .free-are ∙ ap (freeRows (u .ii)) rows-same ∙ sym (a .free-are))
 
--- rolling back to an open checkpoint m, after calls since the opening, is done and gives the state just after the last call that answered m, and its rows
+-- rolling back to an open checkpoint m, after calls since the opening, is done and gives the state just after the last call that answered m, its rows and its numbers
 went-back : {u : Setup} {rest : List ℕ} {s s′ : Session} {rows rows′ : List ℕ} {r : Reply} (m : ℕ) (cs : List Call) → Stands u (after u cs (start u)) rest s rows
     → 1 ≤ m → m ≤ s .marks → Stepped (rollback m) s rows s′ rows′ r
     → (replyOf r ≡ answered done)
     × (stateOf s′ ≡ markedBy u m cs (start u) (start u))
     × (rows′ ≡ stateTable u (markedBy u m cs (start u) (start u)) ++ rest)
+    × (s′ .free ≡ freeRows (u .ii) (stateTable u (markedBy u m cs (start u) (start u))))
 went-back {u} {rest} m cs a low high t =
     let b = step-stands a t in
     let e = back-to u m cs (start u) refl low (omega (arith, stands-marks a)) in (
       b .0 ∙ ap (λ (x : State × Answer model.Reply). x .1) e,
       b .1 .state ∙ ap (λ (x : State × Answer model.Reply). x .0) e,
       b .1 .rows-are ∙ ap (λ (x : State × Answer model.Reply). stateTable u (x .0) ++ rest) e,
+      stands-free (b .1) ∙ ap (λ (x : State × Answer model.Reply). freeRows (u .ii) (stateTable u (x .0))) e,
     )
 
--- its placed operations, placed in any order on a session that was opened alike, are accepted and give its starts and its rows
+-- its placed operations, placed in any order on a session that was opened alike, are accepted and give its starts, its rows and its numbers
 placed-again : {u : Setup} {rest rest₁ : List ℕ} {s s₁ s₂ : Session} {rows rows₁ rows₂ : List ℕ} {rs₂ : List (Answer model.Reply)} (cs : List Call) (os : List ℕ)
     → Stands u (after u cs (start u)) rest s rows → OrderOf (stateOf s .starts) os → Stands u (start u) rest₁ s₁ rows₁
     → Run s₁ rows₁ (placings (stateOf s .starts) os) rs₂ s₂ rows₂
-    → AllDone rs₂ × (stateOf s₂ .starts ≡ stateOf s .starts) × (take (u .ii) rows₂ ≡ take (u .ii) rows)
+    → AllDone rs₂ × (stateOf s₂ .starts ≡ stateOf s .starts) × (take (u .ii) rows₂ ≡ take (u .ii) rows) × (s₂ .free ≡ s .free)
 placed-again {u} {s = s} cs os a q o r =
     let ok : LoopOk (u .loop) = rw (← a .setup) (accepted-ok (fileOf s) (a .valid .board .accepted)) in
     let pos : 1 ≤ u .ii = rw (← a .setup) (a .valid .board .numbers .some) in
     let w = replay u ok pos (stateOf s .starts) (subst (λ (x : State). Good u (x .starts)) (sym (a .state)) (good-run u ok pos cs .now)) os q in
-    let b = ran o r in (
+    let b = ran o r in
+    let tables = ap (stateTable u) (w .1) ∙ ap (stateTable u) (a .state) in (
       subst AllDone (sym (b .0)) (w .0),
       ap (λ (x : State). x .starts) (b .1 .state ∙ w .1),
-      stands-take (b .1) ∙ ap (stateTable u) (w .1) ∙ ap (stateTable u) (a .state) ∙ sym (stands-take a),
+      stands-take (b .1) ∙ tables ∙ sym (stands-take a),
+      stands-free (b .1) ∙ ap (freeRows (u .ii)) tables ∙ sym (stands-free a),
     )
 
 -- demand 3
@@ -196,6 +210,7 @@ demand3 f ii h rows₀ rows₁ rows s₁ s cs rs o r =
       table = a .1 .rows-are;
       bits = b .0;
       bits-end = b .1;
+      free = a .1 .free-are;
       setup = a .1 .setup;
       valid = a .1 .valid;
       back = λ m. went-back m cs (a .1);

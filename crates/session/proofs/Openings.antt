@@ -6,14 +6,18 @@ use Prim.Native.Nat.{ℕ, zero, suc, _+_, _≤_}
 use native.Mathlib.Nat.{not-suc-le-zero, le-of-suc-le-suc}
 use native.Mathlib.Omega.{arith}
 use borrow.Author.Tests.{ltb-false}
-use lib.ListN.{length, take, drop, replicate, length-replicate, length-append, length-drop}
+use lib.ListN.{length, take, drop, replicate, length-replicate, getD-replicate, length-append, length-drop}
 use lib.Seq.{take-at}
 use Rattle.model.specs.Refusals.{Refusal, firstRefusal, Answer, answered, refused, settled, Check, range, lent}
 use Rattle.model.specs.Loop.{size}
 use Rattle.model.specs.File.{longest, loopOf, Accepted, fileChecks}
+use Rattle.model.specs.Table.{freeRows}
 use Rattle.model.specs.Session.{Setup, Starts, openChecks, openFile, openRows, start}
-use Rattle.model.proofs.File.{layout}
+use Rattle.model.proofs.Lists.{getD-filled}
+use Rattle.model.proofs.File.{layout, accepted-ok}
+use Rattle.model.proofs.Free.{free-same, free-held, held-nothing}
 use Rattle.model.proofs.Checks.{passes-left, passes-right, passes-head, passes-tail, at-most, at-least}
+use Rattle.reservation.specs.Seats.{seatOf, seats}
 use Rattle.board.specs.Board.{startsOf, setupAs, Board}
 use Rattle.session.specs.View.{fileOf, stateOf, blank, Valid, closedSession, Opened}
 use Rattle.session.specs.declared.Session.{Session}
@@ -48,6 +52,7 @@ module _ (f : List ℕ) (ii h : ℕ) (rows : List ℕ) where
         says = sym z;
         rows-are = ap (λ (a : Answer Setup). openRows a rows) (sym z);
         state = λ u p. both p z;
+        free = λ u p. both p z;
         valid = λ u p. both p z;
         nothing = λ x p. refl;
       }
@@ -80,7 +85,7 @@ module _ (f : List ℕ) (ii h : ℕ) (rows : List ℕ) where
     module _ (old store rows′ : List ℕ) (whole : length old ≡ longest) (copied : store ≡ f ++ drop (length f) old) (clear : rows′ ≡ replicate ii 0 ++ drop ii rows) where
       -- the session that is opened
       abbrev opened : Session
-      opened = record { file = store; length = length f; interval = ii; horizon = h; starts = blank; marks = 0; saved = replicate 16 blank }
+      opened = record { file = store; length = length f; interval = ii; horizon = h; starts = replicate 64 65535; free = replicate 24 ii; marks = 0; saved = replicate 16 blank }
 
       -- its file
       same-file : fileOf opened ≡ f
@@ -88,6 +93,17 @@ module _ (f : List ℕ) (ii h : ℕ) (rows : List ℕ) where
 
       empty : Board f ii h (replicate 64 65535) rows′
       empty = empty-board rows open-accepted (record { some = open-some; short = open-long; far = open-far }) open-room clear
+
+      -- the numbers are those of the cleared rows
+      all-free : replicate 24 ii ≡ freeRows ii rows′
+      all-free =
+          free-same ii rows′ (replicate 24 ii) (length-replicate 24 ii) (λ i l.
+          omega (
+            arith,
+            getD-replicate 24 i ii 0 l,
+            free-held (loopOf f) ii (seats (replicate 64 65535)) rows′ (accepted-ok f open-accepted) open-some (empty .sane .fine) (empty .held) (suc i) (omega arith) (omega arith),
+            held-nothing (loopOf f) (seats (replicate 64 65535)) (λ o. ap seatOf (getD-filled 64 o 65535)) (suc i),
+          ))
 
       -- opened
       pub open-done : Opened f ii h rows opened checked.Fine rows′
@@ -98,6 +114,7 @@ module _ (f : List ℕ) (ii h : ℕ) (rows : List ℕ) where
             says = ap (λ (g : List ℕ). answered (setupAs g ii h)) same-file ∙ sym z;
             rows-are = clear ∙ ap (λ (a : Answer Setup). openRows a rows) (sym z);
             state = λ u p. state-is u (injective u (sym p ∙ z));
+            free = λ u p. all-free;
             valid = λ u p. valid-is;
             nothing = λ x p. both z p;
           }
@@ -119,7 +136,9 @@ module _ (f : List ℕ) (ii h : ℕ) (rows : List ℕ) where
                 saved-all = length-replicate 16 blank;
                 few = omega arith;
                 board = rw same-file empty;
+                free = all-free;
                 kept = λ i l. absurd (not-suc-le-zero l);
+                kept-free = λ i l. absurd (not-suc-le-zero l);
               }
             where
               lengths : length f + length (drop (length f) old) ≡ longest

@@ -14,18 +14,19 @@ use Rattle.model.specs.Refusals.{Refusal, Check, firstRefusal, Answer, answered
 use Rattle.model.specs.Loop.{size}
 use Rattle.model.specs.File.{loopOf}
 use Rattle.model.specs.Legality.{Placing}
-use Rattle.model.specs.Table.{cellsOf, tableAt}
+use Rattle.model.specs.Table.{rowBase, cellsOf, tableAt, IsTable, freeRows}
 use Rattle.model.specs.Session.{Setup, Starts, State, Call, checkpoint, release, rollback, Reply, placedIn, checks, effect, stepAs, step}
 use Rattle.model.specs.Session as model
 use Rattle.model.proofs.Lists.{map-append, map-take, getD-map-lt}
 use Rattle.model.proofs.Firsts.{getD-within}
 use Rattle.model.proofs.Table.{table-take}
+use Rattle.model.proofs.Free.{free-table}
 use Rattle.model.proofs.Session.{step-refused, step-done, checkpoint-done, rollback-done}
 use Rattle.reservation.specs.Seats.{seats}
 use Rattle.board.specs.Board.{startsOf, Sane, Board}
 use Rattle.board.specs.Moves.{Did, Restored}
-use Rattle.session.specs.View.{fileOf, setupOf, stateOf, blank, Valid, Stepped}
-use Rattle.session.specs.declared.OpStarts as starts
+use Rattle.session.specs.View.{fileOf, setupOf, stateOf, blank, keptNow, freeOfStarts, Valid, Stepped}
+use Rattle.session.specs.declared.Kept as kept
 use Rattle.session.specs.declared.Session.{Session}
 use Rattle.board.specs.declared.Reply as declared
 use Rattle.board.specs.declared.Reply.the-variants as reply
@@ -63,18 +64,19 @@ step-plain u c a cs p q =
     pick none = refl
     pick (some r) = refl
 
--- the session with other starts
-abbrev pub withStarts : Session → List ℕ → Session
-withStarts s xs =
-    record { file = s .file; length = s .length; interval = s .interval; horizon = s .horizon; starts = record { at = xs }; marks = s .marks; saved = s .saved }
+-- the session with other starts and numbers
+abbrev pub withPlaced : Session → (xs free : List ℕ) → Session
+withPlaced s xs free =
+    record { file = s .file; length = s .length; interval = s .interval; horizon = s .horizon; starts = xs; free = free; marks = s .marks; saved = s .saved }
 
 module _ (s : Session) (rows : List ℕ) (v : Valid s rows) where
-  -- from what a call did to the starts and the rows
-  pub stepped-plain : (c : Call) {xs′ rows′ : List ℕ} {r : declared.Reply}
+  -- from what a call did to the starts, the rows and the numbers
+  pub stepped-plain : (c : Call) {xs′ rows′ free′ : List ℕ} {r : declared.Reply}
       → ((a : Starts) (cs : List Starts) → checks (setupOf s) c (mk a cs) ≡ checks (setupOf s) c (mk a []))
       → ((a : Starts) (cs : List Starts) → effect (setupOf s) c (mk a cs) ≡ (mk (effect (setupOf s) c (mk a []) .0 .starts) cs, effect (setupOf s) c (mk a []) .1))
-      → Did c (fileOf s) (s .interval) (s .horizon) (s .starts .at) rows xs′ rows′ r → Stepped c s rows (withStarts s xs′) rows′ r
-  stepped-plain c {xs′} {rows′} {r} p q d =
+      → Did c (fileOf s) (s .interval) (s .horizon) (s .starts) rows xs′ rows′ r × (free′ ≡ freeRows (s .interval) rows′) → Stepped c s rows (withPlaced s xs′ free′) rows′ r
+  stepped-plain c p q both =
+      let d = both .0 in
       let u : Setup = setupOf s in
       let a : Starts = stateOf s .starts in
       let cs : List Starts = stateOf s .checkpoints in
@@ -84,8 +86,19 @@ module _ (s : Session) (rows : List ℕ) (v : Valid s rows) where
         state = ap (λ (x : Starts). mk x cs) (d .starts-are) ∙ sym (ap (λ (x : State × Answer Reply). x .0) e);
         setup = refl;
         rows-are = board-rows rows (d .board) (d .rest);
-        valid = record { stored = v .stored; fits-in = v .fits-in; saved-all = v .saved-all; few = v .few; board = d .board; kept = v .kept };
-        same = λ x z. (ap (withStarts s) (d .kept x z .0), d .kept x z .1);
+        free-are = both .1;
+        valid =
+            record {
+              stored = v .stored;
+              fits-in = v .fits-in;
+              saved-all = v .saved-all;
+              few = v .few;
+              board = d .board;
+              free = both .1;
+              kept = v .kept;
+              kept-free = v .kept-free;
+            };
+        same = λ x z. let k = d .kept x z in (ap₂ (withPlaced s) (k .0) (both .1 ∙ ap (freeRows (s .interval)) (k .1) ∙ sym (v .free)), k .1);
       }
 
   -- a call refused before anything was looked at
@@ -97,6 +110,7 @@ module _ (s : Session) (rows : List ℕ) (v : Valid s rows) where
         state = sym (ap (λ (x : State × Answer Reply). x .0) z);
         setup = refl;
         rows-are = board-rows rows (v .board) refl;
+        free-are = v .free;
         valid = v;
         same = λ x w. (refl, refl);
       }
@@ -114,7 +128,7 @@ module _ (s : Session) (rows : List ℕ) (v : Valid s rows) where
   -- the session with one checkpoint more
   abbrev marked : Session
   marked =
-      record { file = s .file; length = s .length; interval = s .interval; horizon = s .horizon; starts = s .starts; marks = s .marks + 1; saved = set (s .saved) (s .marks) (s .starts) }
+      record { file = s .file; length = s .length; interval = s .interval; horizon = s .horizon; starts = s .starts; free = s .free; marks = s .marks + 1; saved = set (s .saved) (s .marks) (keptNow s) }
 
   pub stepped-checkpoint : s .marks < 16 → Stepped checkpoint s rows marked rows (reply.Numbered (s .marks + 1))
   stepped-checkpoint h =
@@ -124,32 +138,41 @@ module _ (s : Session) (rows : List ℕ) (v : Valid s rows) where
         state = ap (mk (stateOf s .starts)) copies ∙ sym (ap (λ (x : State × Answer Reply). x .0) z);
         setup = refl;
         rows-are = board-rows rows (v .board) refl;
+        free-are = v .free;
         valid =
             record {
               stored = v .stored;
               fits-in = v .fits-in;
-              saved-all = length-set (s .saved) (s .marks) (s .starts) ∙ v .saved-all;
+              saved-all = length-set (s .saved) (s .marks) (keptNow s) ∙ v .saved-all;
               few = omega arith;
               board = v .board;
+              free = v .free;
               kept = λ i l. pick i (eq-or-lt-of-le (before i l));
+              kept-free = λ i l. pick-free i (eq-or-lt-of-le (before i l));
             };
         same = λ x w. done-kept _ x w;
       }
     where
-      read : starts.OpStarts → Starts
-      read x = startsOf (size (loopOf (fileOf s))) (x .at)
+      read : kept.Kept → Starts
+      read x = startsOf (size (loopOf (fileOf s))) (x .starts)
 
-      copies : map read (take (s .marks + 1) (set (s .saved) (s .marks) (s .starts))) ≡ map read (take (s .marks) (s .saved)) ++ (read (s .starts) ∷ [])
+      copies : map read (take (s .marks + 1) (set (s .saved) (s .marks) (keptNow s))) ≡ map read (take (s .marks) (s .saved)) ++ (read (keptNow s) ∷ [])
       copies =
-          ap (map read) (ap (λ (n : ℕ). take n (set (s .saved) (s .marks) (s .starts))) (add-one (s .marks)) ∙ take-suc-set (s .saved) (s .marks) (s .starts) (omega (arith, v .saved-all)))
-          ∙ map-append read (take (s .marks) (s .saved)) (s .starts ∷ [])
+          ap (map read) (ap (λ (n : ℕ). take n (set (s .saved) (s .marks) (keptNow s))) (add-one (s .marks)) ∙ take-suc-set (s .saved) (s .marks) (keptNow s) (omega (arith, v .saved-all)))
+          ∙ map-append read (take (s .marks) (s .saved)) (keptNow s ∷ [])
 
       before : (i : ℕ) → i < s .marks + 1 → i ≤ s .marks
       before i l = omega arith
 
-      pick : (i : ℕ) → (i ≡ s .marks) ⊎ (i < s .marks) → Sane (loopOf (fileOf s)) (s .interval) (s .horizon) (getD (set (s .saved) (s .marks) (s .starts)) i blank .at)
-      pick i (inl e) = rw (e, getD-set-same (s .saved) (s .marks) (s .starts) blank (omega (arith, v .saved-all))) (v .board .sane)
-      pick i (inr l) = rw (getD-set-other (s .saved) (s .marks) i (s .starts) blank (λ e. omega arith)) (v .kept i l)
+      pick : (i : ℕ) → (i ≡ s .marks) ⊎ (i < s .marks) → Sane (loopOf (fileOf s)) (s .interval) (s .horizon) (getD (set (s .saved) (s .marks) (keptNow s)) i blank .starts)
+      pick i (inl e) = rw (e, getD-set-same (s .saved) (s .marks) (keptNow s) blank (omega (arith, v .saved-all))) (v .board .sane)
+      pick i (inr l) = rw (getD-set-other (s .saved) (s .marks) i (keptNow s) blank (λ e. omega arith)) (v .kept i l)
+
+      pick-free : (i : ℕ) → (i ≡ s .marks) ⊎ (i < s .marks) → let p = getD (set (s .saved) (s .marks) (keptNow s)) i blank in p .free ≡ freeOfStarts s (p .starts)
+      pick-free i (inl e) =
+          rw (e, getD-set-same (s .saved) (s .marks) (keptNow s) blank (omega (arith, v .saved-all)))
+          (v .free ∙ free-table (s .interval) (cellsOf (loopOf (fileOf s)) (s .interval) (seats (s .starts))) rows (v .board .held))
+      pick-free i (inr l) = rw (getD-set-other (s .saved) (s .marks) i (keptNow s) blank (λ e. omega arith)) (v .kept-free i l)
 
   -- ---- release
 
@@ -159,7 +182,7 @@ module _ (s : Session) (rows : List ℕ) (v : Valid s rows) where
 
   -- the session with n checkpoints, of those that are open
   abbrev fewer : ℕ → Session
-  fewer n = record { file = s .file; length = s .length; interval = s .interval; horizon = s .horizon; starts = s .starts; marks = n; saved = s .saved }
+  fewer n = record { file = s .file; length = s .length; interval = s .interval; horizon = s .horizon; starts = s .starts; free = s .free; marks = n; saved = s .saved }
 
   -- the first n of the open checkpoints
   first-open : (n : ℕ) → n ≤ s .marks → stateOf (fewer n) .checkpoints ≡ take n (stateOf s .checkpoints)
@@ -176,6 +199,7 @@ module _ (s : Session) (rows : List ℕ) (v : Valid s rows) where
             ∙ sym (ap (λ (x : State × Answer Reply). x .0) z);
         setup = refl;
         rows-are = board-rows rows (v .board) refl;
+        free-are = v .free;
         valid =
             record {
               stored = v .stored;
@@ -183,7 +207,9 @@ module _ (s : Session) (rows : List ℕ) (v : Valid s rows) where
               saved-all = v .saved-all;
               few = omega (arith, v .few);
               board = v .board;
+              free = v .free;
               kept = λ i l. v .kept i (omega arith);
+              kept-free = λ i l. v .kept-free i (omega arith);
             };
         same = λ x w. done-kept _ x w;
       }
@@ -198,30 +224,37 @@ module _ (s : Session) (rows : List ℕ) (v : Valid s rows) where
   unfolding firstRefusal
   not-open m n h = stepped-refused (rollback m) 19 0 (rw (open-count, ne-eqb m 0 n, lt-ltb (s .marks) m h))
 
-  module _ (m : ℕ) (some : m ≡ 0 → ⊥) (there : m ≤ s .marks) (d : starts.OpStarts) where
+  module _ (m : ℕ) (some : m ≡ 0 → ⊥) (there : m ≤ s .marks) (d : kept.Kept) where
     -- the starts of the checkpoint
-    abbrev wanted : starts.OpStarts
+    abbrev wanted : kept.Kept
     wanted = getD (s .saved) (m - 1) d
 
     -- they are sane, whatever stands past the end
-    pub wanted-sane : Sane (loopOf (fileOf s)) (s .interval) (s .horizon) (wanted .at)
+    pub wanted-sane : Sane (loopOf (fileOf s)) (s .interval) (s .horizon) (wanted .starts)
     wanted-sane =
         rw (getD-within (s .saved) (m - 1) d blank (omega (arith, v .saved-all, v .few))) (v .kept (m - 1) (omega arith))
 
+    -- and its numbers are those of the rows that hold them
+    wanted-free : (rows′ : List ℕ) → IsTable rowBase (s .interval) (cellsOf (loopOf (fileOf s)) (s .interval) (seats (wanted .starts))) rows′ → wanted .free ≡ freeRows (s .interval) rows′
+    wanted-free rows′ held =
+        rw (getD-within (s .saved) (m - 1) d blank (omega (arith, v .saved-all, v .few))) (v .kept-free (m - 1) (omega arith))
+        ∙ sym (free-table (s .interval) (cellsOf (loopOf (fileOf s)) (s .interval) (seats (wanted .starts))) rows′ held)
+
     -- the session gone back to it
     abbrev back : Session
-    back = record { file = s .file; length = s .length; interval = s .interval; horizon = s .horizon; starts = wanted; marks = m; saved = s .saved }
+    back = record { file = s .file; length = s .length; interval = s .interval; horizon = s .horizon; starts = wanted .starts; free = wanted .free; marks = m; saved = s .saved }
 
-    pub stepped-rollback : {xs′ rows′ : List ℕ} → Restored (fileOf s) (s .interval) (wanted .at) rows xs′ rows′ → Stepped (rollback m) s rows back rows′ reply.Done
+    pub stepped-rollback : {xs′ rows′ : List ℕ} → Restored (fileOf s) (s .interval) (wanted .starts) rows xs′ rows′ → Stepped (rollback m) s rows back rows′ reply.Done
     stepped-rollback {rows′ = rows′} k =
         let z = rollback-done (setupOf s) (stateOf s) m (omega arith) (omega (arith, open-count)) in
-        let b : Board (fileOf s) (s .interval) (s .horizon) (wanted .at) rows′ =
+        let b : Board (fileOf s) (s .interval) (s .horizon) (wanted .starts) rows′ =
         record { accepted = v .board .accepted; numbers = v .board .numbers; sane = wanted-sane; held = k .held } in
         record {
           reply = sym (ap (λ (x : State × Answer Reply). x .1) z);
           state = ap₂ mk (sym there-is) (first-open m there) ∙ sym (ap (λ (x : State × Answer Reply). x .0) z);
           setup = refl;
           rows-are = board-rows rows b (k .rest);
+          free-are = wanted-free rows′ (k .held);
           valid =
               record {
                 stored = v .stored;
@@ -229,12 +262,14 @@ module _ (s : Session) (rows : List ℕ) (v : Valid s rows) where
                 saved-all = v .saved-all;
                 few = omega (arith, v .few);
                 board = b;
+                free = wanted-free rows′ (k .held);
                 kept = λ i l. v .kept i (omega arith);
+                kept-free = λ i l. v .kept-free i (omega arith);
               };
           same = λ x w. done-kept _ x w;
         }
       where
-        there-is : getD (stateOf s .checkpoints) (m - 1) [] ≡ startsOf (size (loopOf (fileOf s))) (wanted .at)
+        there-is : getD (stateOf s .checkpoints) (m - 1) [] ≡ startsOf (size (loopOf (fileOf s))) (wanted .starts)
         there-is =
             getD-map-lt _ (take (s .marks) (s .saved)) (m - 1) d [] (omega (arith, length-take-le (s .marks) (s .saved) (omega (arith, v .few, v .saved-all))))
-            ∙ ap (λ (x : starts.OpStarts). startsOf (size (loopOf (fileOf s))) (x .at)) (getD-take (s .marks) (s .saved) (m - 1) d (omega arith))
+            ∙ ap (λ (x : kept.Kept). startsOf (size (loopOf (fileOf s))) (x .starts)) (getD-take (s .marks) (s .saved) (m - 1) d (omega arith))

@@ -6,7 +6,7 @@ use Prim.Native.Nat.{ℕ, _^_, _≤_, _<_}
 use lib.ListN.{getD, take, drop}
 use Rattle.model.specs.Refusals.{Answer, answered}
 use Rattle.model.specs.File.{loopOf}
-use Rattle.model.specs.Table.{rowBase, coveredAt, digitOf}
+use Rattle.model.specs.Table.{rowBase, coveredAt, digitOf, freeRows}
 use Rattle.model.specs.Session.{Call, checkpoint, rollback, done, numbered, placedIn, stateTable, start, after, replies}
 use Rattle.model.specs.Session as model
 use Rattle.model.specs.Undo.{NoneGives, markedBy, placings, OrderOf, AllDone}
@@ -35,22 +35,25 @@ pub record Exact (f : List ℕ) (ii h : ℕ) (rows₀ : List ℕ) (cs : List Cal
   pub bits : (slot row : ℕ) → row < ii → 1 ≤ slot → slot ≤ 24
       → digitOf rowBase (getD rows row 0) slot ≡ cond (coveredAt (loopOf f) ii (placedIn (stateOf s .starts)) slot row) 1 0
   pub bits-end : (row : ℕ) → row < ii → getD rows row 0 < 2 ^ 24
+  -- the number of each slot is the count of the first ii rows whose bit is clear
+  pub free : s .free ≡ freeRows ii rows
   -- the file, the interval and the horizon are those of the opening, and the session is one that calls take
   pub setup : setupOf s ≡ setupAs f ii h
   pub valid : Valid s rows
-  -- rolling back to an open checkpoint m is done, and gives the starts, the checkpoints and the rows of just after the last checkpoint call that answered m
+  -- rolling back to an open checkpoint m is done, and gives the starts, the checkpoints, the rows and the numbers of just after the last checkpoint call that answered m
   pub back : (m : ℕ) {s′ : Session} {rows′ : List ℕ} {r : Reply} → 1 ≤ m → m ≤ s .marks → Stepped (rollback m) s rows s′ rows′ r
       → (replyOf r ≡ answered done)
       × (stateOf s′ ≡ markedBy (setupAs f ii h) m cs (start (setupAs f ii h)) (start (setupAs f ii h)))
       × (rows′ ≡ stateTable (setupAs f ii h) (markedBy (setupAs f ii h) m cs (start (setupAs f ii h)) (start (setupAs f ii h))) ++ drop ii rows₀)
+      × (s′ .free ≡ freeRows ii (stateTable (setupAs f ii h) (markedBy (setupAs f ii h) m cs (start (setupAs f ii h)) (start (setupAs f ii h)))))
   -- the same of the very session and rows that this call left: s₂ and rows₂, from which the calls cs₂, none of which answered m, led here
   pub very : (m : ℕ) {s₁ s₂ s′ : Session} {rows₁ rows₂ rows′ : List ℕ} {r₁ r : Reply} {cs₂ : List Call} {rs₂ : List (Answer model.Reply)}
       → Stepped checkpoint s₁ rows₁ s₂ rows₂ r₁ → replyOf r₁ ≡ answered (numbered m) → Run s₂ rows₂ cs₂ rs₂ s rows → NoneGives m rs₂
-      → m ≤ s .marks → Stepped (rollback m) s rows s′ rows′ r → (stateOf s′ ≡ stateOf s₂) × (rows′ ≡ rows₂)
-  -- the placed operations, placed in any order on a second session opened alike, are each accepted and give the same starts and rows
+      → m ≤ s .marks → Stepped (rollback m) s rows s′ rows′ r → (stateOf s′ ≡ stateOf s₂) × (rows′ ≡ rows₂) × (s′ .free ≡ s₂ .free)
+  -- the placed operations, placed in any order on a second session opened alike, are each accepted and give the same starts, rows and numbers
   pub again : (os : List ℕ) {s₁ s₂ : Session} {table₁ rows₁ rows₂ : List ℕ} {rs₂ : List (Answer model.Reply)}
       → OrderOf (stateOf s .starts) os → Opened f ii h table₁ s₁ checked.Fine rows₁ → Run s₁ rows₁ (placings (stateOf s .starts) os) rs₂ s₂ rows₂
-      → AllDone rs₂ × (stateOf s₂ .starts ≡ stateOf s .starts) × (take ii rows₂ ≡ take ii rows)
+      → AllDone rs₂ × (stateOf s₂ .starts ≡ stateOf s .starts) × (take ii rows₂ ≡ take ii rows) × (s₂ .free ≡ s .free)
 
 -- demand 3: for any file, interval, horizon and table that opening accepts, and any list of calls
 abbrev pub Demand3 : Type 0

@@ -1,5 +1,5 @@
 // The session (document 01): a modulo reservation table in which operations are placed, forced, removed, checkpointed and rolled back. A session is a value: each call
-// takes it and hands back the next one, and the caller keeps the table of rows. The work is done in the crate `board`, on slices; here it is joined to the session's fields.
+// takes it and hands back the next one, and the caller keeps the table of rows. The work is done in the crates `board` and `free_rows`, on slices; here it is joined to the session's fields.
 mod checks;
 mod store;
 
@@ -12,20 +12,23 @@ ghost use mathlib.Core.Path.{_≡_};
 ghost use Rattle.model.specs.Session as model;
 ghost use Rattle.session.specs.View.{closedSession, Valid, Stepped, Opened};
 
-// A start for each operation, 65,535 where it is not placed (document 01: seats).
-pub struct OpStarts {
-    pub at: [u16; 64],
+// What a checkpoint keeps (document 01: a mark): the starts, and the numbers of free rows.
+pub struct Kept {
+    pub starts: [u16; 64],
+    pub free: [u16; 24],
 }
 
-// What a session holds: a copy of its file and how long that is; the interval and the horizon; the starts; how many checkpoints are open (document 01: marks), and the starts of each.
+// What a session holds: a copy of its file and how long that is; the interval and the horizon; a start for each operation, 65,535 where it is not placed (document 01: seats); for each slot,
+// 1 to 24, how many rows of the table have it free (document 02, order 4); how many checkpoints are open (document 01: marks), and what each keeps.
 pub struct Session {
     pub file: [u8; LONGEST],
     pub length: usize,
     pub interval: usize,
     pub horizon: usize,
-    pub starts: OpStarts,
+    pub starts: [u16; 64],
+    pub free: [u16; 24],
     pub marks: usize,
-    pub saved: [OpStarts; 16],
+    pub saved: [Kept; 16],
 }
 
 // The session after a call, and the answer.
@@ -44,24 +47,34 @@ pub struct Opening {
 pub fn open(file: &[u8], interval: usize, horizon: usize, rows: &mut [u64]) -> Opening
     ensures { λ r. ⌜ Opened (now (file .entry)) interval horizon (now (rows .entry)) (r .session) (r .answer) (now (rows .exit)) ⌝ }
 {
-    let nothing = closed();
     let answer = checks::openable(file, interval, horizon, rows.len());
     let Checked::Fine = answer else {
+        let nothing = closed();
         return Opening {
             session: nothing,
             answer: answer,
         };
     };
-    let mut copy = nothing.file;
+    let mut copy = [0u8; LONGEST];
     store::copy_file(file, &mut copy);
     clear_rows(rows, interval);
-    let mut t = nothing;
-    t.file = copy;
-    t.length = file.len();
-    t.interval = interval;
-    t.horizon = horizon;
+    let each = interval as u16;
+    let blank = Kept {
+        starts: [65535u16; 64],
+        free: [65535u16; 24],
+    };
+    let s = Session {
+        file: copy,
+        length: file.len(),
+        interval: interval,
+        horizon: horizon,
+        starts: [65535u16; 64],
+        free: [each; 24],
+        marks: 0,
+        saved: [blank; 16],
+    };
     Opening {
-        session: t,
+        session: s,
         answer: Checked::Fine,
     }
 }
@@ -70,13 +83,17 @@ pub fn open(file: &[u8], interval: usize, horizon: usize, rows: &mut [u64]) -> O
 fn closed() -> Session
     ensures { λ r. ⌜ r ≡ closedSession ⌝ }
 {
-    let blank = OpStarts { at: [65535u16; 64] };
+    let blank = Kept {
+        starts: [65535u16; 64],
+        free: [65535u16; 24],
+    };
     Session {
         file: [0u8; LONGEST],
         length: 0,
         interval: 0,
         horizon: 0,
-        starts: blank,
+        starts: [65535u16; 64],
+        free: [65535u16; 24],
         marks: 0,
         saved: [blank; 16],
     }
@@ -91,18 +108,21 @@ pub fn place(s: Session, rows: &mut [u64], op: usize, start: usize) -> After
     let interval = s.interval;
     let horizon = s.horizon;
     let mut starts = s.starts;
-    let reply = moves::place(
+    let mut free = s.free;
+    let reply = free_rows::place(
         &s.file,
         length,
         interval,
         horizon,
         op,
         start,
-        &mut starts.at,
+        &mut starts,
         rows,
+        &mut free,
     );
     let mut t = s;
     t.starts = starts;
+    t.free = free;
     After {
         session: t,
         reply: reply,
@@ -118,18 +138,21 @@ pub fn force(s: Session, rows: &mut [u64], op: usize, start: usize) -> After
     let interval = s.interval;
     let horizon = s.horizon;
     let mut starts = s.starts;
-    let reply = moves::force(
+    let mut free = s.free;
+    let reply = free_rows::force(
         &s.file,
         length,
         interval,
         horizon,
         op,
         start,
-        &mut starts.at,
+        &mut starts,
         rows,
+        &mut free,
     );
     let mut t = s;
     t.starts = starts;
+    t.free = free;
     After {
         session: t,
         reply: reply,
@@ -144,16 +167,18 @@ pub fn remove(s: Session, rows: &mut [u64], op: usize) -> After
     let length = s.length;
     let interval = s.interval;
     let mut starts = s.starts;
-    let reply = moves::remove(&s.file, length, interval, op, &mut starts.at, rows);
+    let mut free = s.free;
+    let reply = free_rows::remove(&s.file, length, interval, op, &mut starts, rows, &mut free);
     let mut t = s;
     t.starts = starts;
+    t.free = free;
     After {
         session: t,
         reply: reply,
     }
 }
 
-// Keeps a copy of the starts (document 01: mark). The rows are not read.
+// Keeps a copy of the starts and the numbers (document 01: mark). The rows are not read.
 pub fn checkpoint(s: Session, rows: &[u64]) -> After
     requires { ⌜ Valid s (now rows) ⌝ }
     ensures { λ r. ⌜ Stepped model.checkpoint s (now (rows .entry)) (r .session) (now (rows .entry)) (r .reply) ⌝ }
@@ -166,8 +191,13 @@ pub fn checkpoint(s: Session, rows: &[u64]) -> After
         };
     }
     let starts = s.starts;
+    let free = s.free;
+    let kept = Kept {
+        starts: starts,
+        free: free,
+    };
     let mut t = s;
-    t.saved[n] = starts;
+    t.saved[n] = kept;
     t.marks = n + 1;
     After {
         session: t,
@@ -195,7 +225,7 @@ pub fn release(s: Session, rows: &[u64]) -> After
     }
 }
 
-// Goes back to the starts of checkpoint m, which stays open; later ones are forgotten (document 01: back to mark).
+// Goes back to the starts and the numbers of checkpoint m, which stays open; later ones are forgotten (document 01: back to mark).
 pub fn rollback(s: Session, rows: &mut [u64], m: usize) -> After
     requires { ⌜ Valid s (now rows) ⌝ }
     ensures { λ r. ⌜ Stepped (model.rollback m) s (now (rows .entry)) (r .session) (now (rows .exit)) (r .reply) ⌝ }
@@ -216,9 +246,11 @@ pub fn rollback(s: Session, rows: &mut [u64], m: usize) -> After
     let interval = s.interval;
     let wanted = s.saved[m - 1];
     let mut starts = s.starts;
-    moves::restore(&s.file, length, interval, &wanted.at, &mut starts.at, rows);
+    moves::restore(&s.file, length, interval, &wanted.starts, &mut starts, rows);
+    let free = wanted.free;
     let mut t = s;
-    t.starts = wanted;
+    t.starts = starts;
+    t.free = free;
     t.marks = m;
     After {
         session: t,

@@ -1,5 +1,6 @@
 // Sessions of a table, which is read from standard input (the file stdin says how a line of it reads): a line for each opening, and below it a line for each call, with what it leaves
-// in the session and in the lent table. What it must print, the file stdout, was worked out by hand from document 01.
+// in the session and in the lent table. What it must print, the file stdout, was worked out by hand from document 01; the numbers of free rows (document 02, order 4) were computed by
+// another program, from the rows that a line shows and again from its starts.
 mod show;
 
 use session::After;

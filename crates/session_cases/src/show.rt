@@ -1,4 +1,4 @@
-// What a line shows: an answer, the placed operations with their starts, how many checkpoints are open, and the table.
+// What a line shows: an answer, the placed operations with their starts, how many checkpoints are open, how many rows each slot has free, and the table.
 use session::After;
 use session::Reply;
 use session::Session;
@@ -50,6 +50,31 @@ fn starts(at: &[u16; 64]) {
     }
     if placed == 0 {
         io::write_all(1, b" none");
+    }
+}
+
+// ` S:N` where the number of a slot's free rows is not the interval; 1 where it is shown.
+fn number(slot: usize, n: u16, interval: usize) -> usize
+    ensures { λ r. ⌜ r ≤ 1 ⌝ }
+{
+    if n as usize == interval {
+        return 0;
+    }
+    console::form(b" %:%", [slot, n as usize, 0, 0, 0]);
+    1
+}
+
+// `; free S:N S:N ..` with the slots that do not have all rows free, and how many they have, or `; free all`.
+fn free(numbers: &[u16; 24], interval: usize) {
+    io::write_all(1, b"; free");
+    let mut shown = 0;
+    let mut i = 0;
+    while i < 24 {
+        shown += number(i + 1, numbers[i], interval);
+        i += 1;
+    }
+    if shown == 0 {
+        io::write_all(1, b" all");
     }
 }
 
@@ -116,9 +141,11 @@ fn table(rows: &[u64], interval: usize) {
 
 // The session and its table, to the end of the line.
 pub fn state(s: Session, rows: &[u64]) {
-    let placed = s.starts;
-    starts(&placed.at);
+    let at = s.starts;
+    starts(&at);
     console::form(b"; checkpoints %", [s.marks, 0, 0, 0, 0]);
+    let numbers = s.free;
+    free(&numbers, s.interval);
     table(rows, s.interval);
     io::write_all(1, b"\n");
 }

@@ -4,7 +4,9 @@
 use plain::file::{Dependence, Loop};
 use plain::legality::Place;
 use plain::search::{NotFound, Request};
+use plain::session::FreeRows;
 use plain::{bounds, Refusal};
+use std::array;
 use std::collections::BTreeSet;
 
 /// The recurrence bound as the largest quotient, rounded up, of delay by distance over the circles that pass no operation
@@ -109,6 +111,14 @@ pub fn stages(described: &Loop, interval: usize, starts: &[u16]) -> usize {
         }
     }
     stages
+}
+
+/// In how many rows each slot is free, row by row.
+pub fn free_rows(rows: &[u64]) -> FreeRows {
+    array::from_fn(|bit| {
+        let free = rows.iter().filter(|&row| row & (1 << bit) == 0);
+        free.count() as u16
+    })
 }
 
 /// Up to so many lists of starts are gone through.

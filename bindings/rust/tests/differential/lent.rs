@@ -165,8 +165,10 @@ pub struct SessionMemory {
     pub rows: Lent<u64>,
     pub replies: Lent<u64>,
     pub starts: Lent<u16>,
+    pub free_rows: Lent<u16>,
 }
 
+/// A replay. Where it is refused as a whole, all that is lent is expected to be as it was.
 pub fn session(
     random: &mut Random,
     file: &[u8],
@@ -174,13 +176,15 @@ pub fn session(
     calls: &[u64],
     memory: &mut SessionMemory,
 ) -> Told {
+    let before = memory.clone();
     let rows = memory.rows.part();
     let replies = memory.replies.part();
     let starts = memory.starts.part();
-    assert_eq!(starts.len(), 64);
-    // SAFETY: the slices are valid for their lengths, the starts for 64, the answer for its eight numbers, and none
-    // overlaps another.
-    told(random, |answer| unsafe {
+    let free_rows = memory.free_rows.part();
+    assert_eq!((starts.len(), free_rows.len()), (64, 24));
+    // SAFETY: the slices are valid for their lengths, the starts for 64, the free rows for 24, the answer for its eight
+    // numbers, and none overlaps another.
+    let (result, answer) = told(random, |answer| unsafe {
         sys::mw_session(
             file.as_ptr(),
             file.len(),
@@ -193,7 +197,12 @@ pub fn session(
             replies.as_mut_ptr(),
             replies.len(),
             starts.as_mut_ptr().cast(),
+            free_rows.as_mut_ptr().cast(),
             answer,
         )
-    })
+    });
+    if result != 0 {
+        assert_eq!(*memory, before, "written in spite of refusal {result}");
+    }
+    (result, answer)
 }

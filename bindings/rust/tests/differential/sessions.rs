@@ -4,7 +4,7 @@ use crate::lent::{self, Lent, SessionMemory};
 use crate::random::calls::{self, About};
 use crate::random::{self, damage, loops, Random};
 use crate::tally::Tally;
-use crate::{expected, safe};
+use crate::{definitions, expected, safe};
 use mwelitunga::{Call, Replay, Reply};
 use plain::file::read;
 use plain::replay::{replay, Replayed};
@@ -43,6 +43,7 @@ fn any_memory(random: &mut Random, opening: &Opening, calls: &[u64]) -> SessionM
         rows: Lent::new(random, rows),
         replies: Lent::new(random, replies),
         starts: Lent::new(random, 64),
+        free_rows: Lent::new(random, 24),
     }
 }
 
@@ -53,14 +54,15 @@ fn plain_replay(
     memory: &mut SessionMemory,
 ) -> Result<Replayed, Refusal> {
     let starts = memory.starts.part();
+    let free_rows = memory.free_rows.part();
     replay(
         &opening.file,
-        opening.interval,
-        opening.horizon,
+        opening.numbers(),
         calls,
         memory.rows.part(),
         memory.replies.part(),
         starts.try_into().expect("64 starts are lent"),
+        free_rows.try_into().expect("24 numbers are lent"),
     )
 }
 
@@ -98,14 +100,15 @@ fn safe_replay(opening: &Opening, numbers: &[u64], calls: &[Call]) -> Result<Rep
     let mut rows = vec![0; opening.interval.min(4096)];
     let mut replies = vec![0; 2 * calls.len()];
     let mut starts = [0; 64];
+    let mut free_rows = [0; 24];
     let replayed = replay(
         &opening.file,
-        opening.interval,
-        opening.horizon,
+        opening.numbers(),
         numbers,
         &mut rows,
         &mut replies,
         &mut starts,
+        &mut free_rows,
     )?;
     let operations = read(&opening.file)?.operations.len();
     let placed = |&start: &u16| (start != NOT_PLACED).then_some(start);
@@ -117,6 +120,7 @@ fn safe_replay(opening: &Opening, numbers: &[u64], calls: &[Call]) -> Result<Rep
         starts: starts[..operations].iter().map(placed).collect(),
         checkpoints: replayed.checkpoints,
         rows,
+        free_rows,
     })
 }
 
@@ -147,12 +151,20 @@ struct Tallies {
 }
 
 impl Tallies {
-    fn count(&mut self, calls: &[u64], plain: &Result<Replayed, Refusal>, replies: &[u64]) {
+    fn count(
+        &mut self,
+        calls: &[u64],
+        plain: &Result<Replayed, Refusal>,
+        left: &mut SessionMemory,
+    ) {
         self.replays.result("replayed", plain);
         if plain.is_err() {
             return;
         }
-        for (call, reply) in calls.chunks(3).zip(replies.chunks(2)) {
+        if left.free_rows.part().contains(&0) {
+            self.replays.count("replayed, with a full slot");
+        }
+        for (call, reply) in calls.chunks(3).zip(left.replies.part().chunks(2)) {
             let answered = result(reply);
             self.calls.result(KINDS[call[0] as usize - 1], &answered);
             match (call[0], answered) {
@@ -191,7 +203,7 @@ fn compare(random: &mut Random, opening: &Opening, calls: &[u64], tallies: &mut 
     let mut memory = any_memory(random, opening, calls);
     let mut left = memory.clone();
     let plain = plain_replay(opening, calls, &mut left);
-    tallies.count(calls, &plain, left.replies.part());
+    tallies.count(calls, &plain, &mut left);
     let case = || {
         let described = read(&opening.file);
         format!("{calls:?} at {:?} of {described:?}", opening.numbers())
@@ -202,6 +214,10 @@ fn compare(random: &mut Random, opening: &Opening, calls: &[u64], tallies: &mut 
     let raw = lent::session(random, &opening.file, opening.numbers(), calls, &mut memory);
     assert_eq!(raw, told, "{}", case());
     assert_eq!(memory, left, "other memory is left: {}", case());
+    if plain.is_ok() {
+        let counted = definitions::free_rows(&memory.rows.part()[..opening.interval]);
+        assert_eq!(*memory.free_rows.part(), counted, "{}", case());
+    }
 
     if let Some(safe) = safe_calls(calls) {
         let plain = safe_replay(opening, calls, &safe).map_err(safe::refusal);
@@ -260,6 +276,7 @@ fn sessions() {
     tallies.calls.print();
     let Tallies { replays, calls } = tallies;
     replays.at_least(10_000, "replayed");
+    replays.at_least(1000, "replayed, with a full slot");
     replays.refusals_at_least(100, &[1, 2, 3, 4, 5, 6, 7, 20, 254, 255]);
     for kind in KINDS {
         calls.at_least(5000, kind);

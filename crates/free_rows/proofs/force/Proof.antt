@@ -10,8 +10,8 @@ use Rattle.free_rows.proofs.force.Tie as tie
 force-requires : tie.Need-force-requires
 force-requires c κs = search needs
 
-enum-known-reply : tie.Need-enum-known-reply
-enum-known-reply c = search needs
+enum-known-forced : tie.Need-enum-known-forced
+enum-known-forced c = search needs
 
 same-length : tie.Need-same-length
 same-length c = search needs
@@ -33,7 +33,7 @@ count-gone-requires c κs =
     let k = c .before .before .before in
     let m = k .before .before .before .before in
     let s = m .before .before .before .before .before in
-    gone-room (s .pre .1) (m .force .ensures) (ap replyOf (k .reply .given .1)) (s .args .free .now) (s .pre .2)
+    gone-room (s .pre .1) (m .force .ensures) (ap replyOf (k .forced .given .1)) (s .args .free .now) (s .pre .2)
 
 count-requires : tie.Need-count-requires
 count-requires c κs =
@@ -41,7 +41,7 @@ count-requires c κs =
     let k = g .before .before .before .before in
     let m = k .before .before .before .before in
     let s = m .before .before .before .before .before in
-    forced-room (s .pre .1) (m .force .ensures) (ap replyOf (k .reply .given .1)) (s .args .free .now) (s .pre .2) _ (g .count-gone .ensures)
+    forced-room (s .pre .1) (m .force .ensures) (ap replyOf (k .forced .given .1)) (s .args .free .now) (s .pre .2) _ (g .count-gone .ensures)
 
 same-length-2 : tie.Need-same-length-2
 same-length-2 c = search needs
@@ -53,7 +53,7 @@ returns-2 c =
     let m = k .before .before .before .before in
     let s = m .before .before .before .before .before in
     let d = m .force .ensures in
-    (rw (← k .reply .given .1) d, forced-free (s .pre .1) d (ap replyOf (k .reply .given .1)) (s .args .free .now) (s .pre .2) _ (g .count-gone .ensures) _ (c .count .ensures))
+    (rw (← k .forced .given .1) d, forced-free (s .pre .1) d (ap replyOf (k .forced .given .1)) (s .args .free .now) (s .pre .2) _ (g .count-gone .ensures) _ (c .count .ensures))
 
 pub force-spec : {M : Type 1} → statement M
-force-spec = tie.close (tie.spec force-requires enum-known-reply same-length returns slice-aggregate-file count-gone-requires count-requires same-length-2 returns-2)
+force-spec = tie.close (tie.spec force-requires enum-known-forced same-length returns slice-aggregate-file count-gone-requires count-requires same-length-2 returns-2)

@@ -8,7 +8,7 @@ use lib.ListN.{length}
 use Rattle.model.specs.Refusals.{firstRefusal}
 use Rattle.refusals.specs.Checked.{refusalOf}
 use Rattle.refusals.specs.declared.Checked.{Checked}
-use Rattle.session.proofs.Calls.{from-open, ran}
+use Rattle.session.proofs.Calls.{from-open}
 use Rattle.replay.specs.Words.{written}
 use Rattle.replay.specs.Replay.{callChecks}
 use Rattle.replay.proofs.Replays.{fit-room, opened-is, calls-refused, opening-refused, all-made}
@@ -44,7 +44,7 @@ returns c =
     let e = t .enum-told2 .given .1 in
     let g = c .write-refusal .ensures in
     rw (g .number ∙ ap checkNumber e)
-    (calls-refused (a .file .now) (a .interval) (a .horizon) (a .calls .now) (a .rows .now) (a .replies .now) (a .starts .now) (a .answer .now) _ _ _
+    (calls-refused (a .file .now) (a .interval) (a .horizon) (a .calls .now) (a .rows .now) (a .replies .now) (a .starts .now) (a .free .now) (a .answer .now) _ _ _
     (sym (u .unfit .ensures) ∙ ap refusalOf e) (g .words ∙ ap (detailWords (a .answer .now)) e))
 
 open-requires : tie.Need-open-requires
@@ -75,23 +75,16 @@ returns-2 c =
     let q = t .enum-told4 .given .1 in
     let g = c .write-refusal2 .ensures in
     rw (g .number ∙ ap checkNumber q)
-    (opening-refused (a .file .now) (a .interval) (a .horizon) (a .calls .now) (a .rows .now) (a .replies .now) (a .starts .now) (a .answer .now) _ (fine e)
+    (opening-refused (a .file .now) (a .interval) (a .horizon) (a .calls .now) (a .rows .now) (a .replies .now) (a .starts .now) (a .free .now) (a .answer .now) _ (fine e)
     (opened-is (o .«open» .ensures) q) (g .words ∙ ap (detailWords (a .answer .now)) q))
 
 run-requires : tie.Need-run-requires
 run-requires c κs =
-    let t = c .before .before .before in
+    let t = c .before .before .before .before .before in
     let o = t .before .before .before .before in
     let e = o .before .before in
     let a = start (e .before .before) .args in
     (from-open (opened-is (o .«open» .ensures) (t .enum-told3 .given .1)) .valid, omega arith, fit-room (a .calls .now) (length (a .replies .now)) (fine e))
-
-write-starts-requires : tie.Need-write-starts-requires
-write-starts-requires c κs =
-    let r = c .before .before .before .before .before .before .before .before in
-    let t = r .before .before .before .before in
-    let o = t .before .before .before .before in
-    ran (from-open (opened-is (o .«open» .ensures) (t .enum-told3 .given .1))) (r .run .ensures .run) .1 .valid .board .sane .whole
 
 write-answer-requires : tie.Need-write-answer-requires
 write-answer-requires c κs = omega arith
@@ -104,14 +97,13 @@ same-length-3 c = omega arith
 
 returns-3 : tie.Need-returns-3
 returns-3 c =
-    let w = c .before .before in
-    let r = w .before .before .before .before .before .before .before .before .before in
-    let t = r .before .before .before .before in
+    let r = c .before .before .before .before .before .before in
+    let t = r .before .before .before .before .before .before in
     let o = t .before .before .before .before in
     let e = o .before .before in
     let a = start (e .before .before) .args in
-    all-made (a .file .now) (a .interval) (a .horizon) (a .calls .now) (a .rows .now) (a .replies .now) (a .starts .now) (a .answer .now) _ (fine e)
-    (opened-is (o .«open» .ensures) (t .enum-told3 .given .1)) (r .run .ensures) (w .write-starts .ensures) (c .write-answer .ensures)
+    all-made (a .file .now) (a .interval) (a .horizon) (a .calls .now) (a .rows .now) (a .replies .now) (a .starts .now) (a .free .now) (a .answer .now) _ (fine e)
+    (opened-is (o .«open» .ensures) (t .enum-told3 .given .1)) (r .run .ensures) (c .write-answer .ensures)
 
 pub mw-session-spec : {M : Type 1} → statement M
 mw-session-spec =
@@ -129,7 +121,6 @@ mw-session-spec =
     same-length
     returns-2
     run-requires
-    write-starts-requires
     write-answer-requires
     same-length-2
     same-length-3

@@ -26,17 +26,18 @@ restore-requires c κs =
     let t = c .before .before .before .before .before .before .before .before .before in
     let s = t .before .before .before in
     let v = s .pre in
-    (omega (arith, v .stored, v .fits-in), board-far (v .board), sane-more (v .board .numbers .far) (wanted-sane (s .args .t1) (s .args .rows .now) v (s .args .m) (t .before .if1 .left) (t .if2 .left) (record { at = [] })))
+    (omega (arith, v .stored, v .fits-in), board-far (v .board), sane-more (v .board .numbers .far) (wanted-sane (s .args .t1) (s .args .rows .now) v (s .args .m) (t .before .if1 .left) (t .if2 .left) (record { starts = []; free = [] })))
 
 same-length : tie.Need-same-length
 same-length c = omega arith
 
 returns-3 : tie.Need-returns-3
 returns-3 c =
-    let r = c .before .before in
+    let r = c .before .before .before in
     let t = r .before .before .before .before .before .before .before .before .before .before in
     let s = t .before .before .before in
-    stepped-rollback (s .args .t1) (s .args .rows .now) (s .pre) (s .args .m) (t .before .if1 .left) (t .if2 .left) (record { at = [] }) (r .restore .ensures)
+    rw (r .restore .ensures .starts-are)
+    (stepped-rollback (s .args .t1) (s .args .rows .now) (s .pre) (s .args .m) (t .before .if1 .left) (t .if2 .left) (record { starts = []; free = [] }) (r .restore .ensures))
 
 pub rollback-spec : {M : Type 1} → statement M
 rollback-spec =

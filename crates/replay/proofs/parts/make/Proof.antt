@@ -1,9 +1,10 @@
 -- `parts::make` meets its contract: a law of `CallParts` for each return. Assumes nothing.
-use mathlib.Core.Path.{_≡_, refl}
+use mathlib.Core.Path.{_≡_, refl, ap}
 use Prim.Native.Nat.{_≤_}
 use native.Mathlib.Omega.{arith}
 use Rattle.model.specs.Session as model
 use Rattle.session.specs.View.{blank}
+use Rattle.session.specs.declared.Kept.{Kept}
 use Rattle.replay.specs.Parts.{callOf}
 use Rattle.board.proofs.Boards.{sane-more, board-far}
 use Rattle.session.proofs.Steps.{stepped-plain, full, none-open, no-mark, not-open, wanted-sane}
@@ -50,7 +51,7 @@ is-rollback c =
 -- ---- starts and rows
 
 place-requires : tie.Need-place-requires
-place-requires c κs = let v = c .before .before .before .before .before .pre .valid in (omega (arith, v .stored, v .fits-in), v .board)
+place-requires c κs = let v = c .before .before .before .before .before .before .pre .valid in (omega (arith, v .stored, v .fits-in), v .board, v .free)
 
 told-requires : tie.Need-told-requires
 told-requires c κs = omega arith
@@ -61,10 +62,10 @@ same-length c = omega arith
 returns : tie.Need-returns
 returns c =
     let m = c .before .before .before in
-    rw (c .told .ensures) (turned-did _ (is-place (m .before .before .before)) (λ v ok. stepped-plain _ _ ok (model.place _ _) (λ x cs. refl) (λ x cs. refl) (m .place .ensures)))
+    rw (c .told .ensures) (turned-did _ (is-place (m .before .before .before .before)) (λ v ok. stepped-plain _ _ ok (model.place _ _) (λ x cs. refl) (λ x cs. refl) (m .place .ensures)))
 
 force-requires : tie.Need-force-requires
-force-requires c κs = let v = c .before .before .before .before .before .before .pre .valid in (omega (arith, v .stored, v .fits-in), v .board)
+force-requires c κs = let v = c .before .before .before .before .before .before .before .pre .valid in (omega (arith, v .stored, v .fits-in), v .board, v .free)
 
 told-requires-2 : tie.Need-told-requires-2
 told-requires-2 c κs = omega arith
@@ -75,10 +76,12 @@ same-length-2 c = omega arith
 returns-2 : tie.Need-returns-2
 returns-2 c =
     let m = c .before .before .before in
-    rw (c .told2 .ensures) (turned-did _ (is-force (m .before .before .before)) (λ v ok. stepped-plain _ _ ok (model.force _ _) (λ x cs. refl) (λ x cs. refl) (m .force .ensures)))
+    rw (c .told2 .ensures) (turned-did _ (is-force (m .before .before .before .before)) (λ v ok. stepped-plain _ _ ok (model.force _ _) (λ x cs. refl) (λ x cs. refl) (m .force .ensures)))
 
 remove-requires : tie.Need-remove-requires
-remove-requires c κs = let v = c .before .before .before .before .before .before .before .pre .valid in (omega (arith, v .stored, v .fits-in), board-far (v .board))
+remove-requires c κs =
+    let v = c .before .before .before .before .before .before .before .before .pre .valid in
+    (omega (arith, v .stored, v .fits-in), board-far (v .board), v .free)
 
 told-requires-3 : tie.Need-told-requires-3
 told-requires-3 c κs = omega arith
@@ -89,7 +92,7 @@ same-length-3 c = omega arith
 returns-3 : tie.Need-returns-3
 returns-3 c =
     let m = c .before .before .before in
-    rw (c .told3 .ensures) (turned-did _ (is-remove (m .before .before .before)) (λ v ok. stepped-plain _ _ ok (model.remove _) (λ x cs. refl) (λ x cs. refl) (m .remove .ensures _ (ok .board))))
+    rw (c .told3 .ensures) (turned-did _ (is-remove (m .before .before .before .before)) (λ v ok. stepped-plain _ _ ok (model.remove _) (λ x cs. refl) (λ x cs. refl) (m .remove .ensures .0 _ (ok .board), m .remove .ensures .1)))
 
 -- ---- checkpoints
 
@@ -102,8 +105,8 @@ returns-4 c = let t = c .before in rw (c .told4 .ensures) (turned-did _ (is-chec
 add-told : tie.Need-add-told
 add-told c = omega arith
 
-add-t28 : tie.Need-add-t28
-add-t28 c = omega arith
+add-t34 : tie.Need-add-t34
+add-t34 c = omega arith
 
 told-requires-5 : tie.Need-told-requires-5
 told-requires-5 c κs = omega arith
@@ -152,7 +155,7 @@ restore-requires c κs =
     let there : s .args .a ≤ s .args .marks = omega (arith, t .if9 .left) in (
       omega (arith, v .stored, v .fits-in),
       board-far (v .board),
-      rw (← s .pre .wanted-is (omega (arith, e .if8 .left)) there) (sane-more (v .board .numbers .far) (wanted-sane _ _ v (s .args .a) (e .if8 .left) there blank)),
+      rw (← ap (λ (p : Kept). p .starts) (s .pre .wanted-is (e .before .if6 .left) (omega (arith, e .if8 .left)) there)) (sane-more (v .board .numbers .far) (wanted-sane _ _ v (s .args .a) (e .if8 .left) there blank)),
     )
 
 told-requires-10 : tie.Need-told-requires-10
@@ -163,10 +166,10 @@ same-length-4 c = omega arith
 
 returns-10 : tie.Need-returns-10
 returns-10 c =
-    let m = c .before .before .before in
+    let m = c .before .before .before .before in
     let t = m .before .before .before in
     let e = t .before in
-    rw (c .told10 .ensures) (turned-rollback (is-rollback (e .before)) (e .if8 .left) (omega (arith, t .if9 .left)) (m .restore .ensures))
+    rw (c .told10 .ensures) (turned-rollback (e .before .if6 .left) (is-rollback (e .before)) (e .if8 .left) (omega (arith, t .if9 .left)) (m .restore .ensures))
 
 pub make-spec : {M : Type 1} → statement M
 make-spec =
@@ -187,7 +190,7 @@ make-spec =
     told-requires-4
     returns-4
     add-told
-    add-t28
+    add-t34
     told-requires-5
     returns-5
     told-requires-6
