@@ -67,8 +67,7 @@ pub fn make<'a>(
         return told(marks, Reply::Refused(19, 0));
     }
     moves::restore(store, length_, interval, wanted, starts, rows);
-    let back = *wanted_free;
-    *free = back;
+    *free = *wanted_free;
     told(a, Reply::Done)
 }
 

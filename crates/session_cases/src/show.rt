@@ -28,54 +28,40 @@ fn replied(reply: Reply) {
     }
 }
 
-// ` O@S` where the operation is placed; 1 for a placed one.
-fn start(op: usize, at: u16) -> usize
+// A number with its place, in the form of the template, where it is not the usual one; 1 where it is shown.
+fn other(place: usize, n: u16, usual: usize, template: &[u8]) -> usize
     ensures { λ r. ⌜ r ≤ 1 ⌝ }
 {
-    if at == 65535 {
+    if n as usize == usual {
         return 0;
     }
-    console::form(b" %@%", [op, at as usize, 0, 0, 0]);
+    console::form(template, [place, n as usize, 0, 0, 0]);
     1
 }
 
-// `; starts O@S O@S ..` with the placed operations, or `; starts none`.
-fn starts(at: &[u16; 64]) {
-    io::write_all(1, b"; starts");
-    let mut placed = 0;
-    let mut op = 0;
-    while op < 64 {
-        placed += start(op, at[op]);
-        op += 1;
-    }
-    if placed == 0 {
-        io::write_all(1, b" none");
-    }
-}
-
-// ` S:N` where the number of a slot's free rows is not the interval; 1 where it is shown.
-fn number(slot: usize, n: u16, interval: usize) -> usize
-    ensures { λ r. ⌜ r ≤ 1 ⌝ }
+// The numbers that are not the usual one, with their places, counted from `first`; or what is said where there are none.
+fn others(numbers: &[u16], usual: usize, first: usize, template: &[u8], nothing: &[u8])
+    requires { ⌜ first ≤ 1 ⌝ }
 {
-    if n as usize == interval {
-        return 0;
-    }
-    console::form(b" %:%", [slot, n as usize, 0, 0, 0]);
-    1
-}
-
-// `; free S:N S:N ..` with the slots that do not have all rows free, and how many they have, or `; free all`.
-fn free(numbers: &[u16; 24], interval: usize) {
-    io::write_all(1, b"; free");
     let mut shown = 0;
     let mut i = 0;
-    while i < 24 {
-        shown += number(i + 1, numbers[i], interval);
+    while i < numbers.len() {
+        shown += other(first + i, numbers[i], usual, template);
         i += 1;
     }
     if shown == 0 {
-        io::write_all(1, b" all");
+        io::write_all(1, nothing);
     }
+}
+
+// ` O@S O@S ..` with the placed operations, or ` none`.
+fn starts(at: &[u16; 64]) {
+    others(at, 65535, 0, b" %@%", b" none");
+}
+
+// ` S:N S:N ..` with the slots that do not have all rows free, and how many they have, or ` all`.
+fn free(numbers: &[u16; 24], interval: usize) {
+    others(numbers, interval, 1, b" %:%", b" all");
 }
 
 // A row: ` V`, or, where only the rows that are not 0 are shown, ` R:V`; 1 where it is shown.
@@ -139,11 +125,12 @@ fn table(rows: &[u64], interval: usize) {
     }
 }
 
-// The session and its table, to the end of the line.
+// `; starts ..; checkpoints C; free ..; rows ..`, to the end of the line.
 pub fn state(s: Session, rows: &[u64]) {
+    io::write_all(1, b"; starts");
     let at = s.starts;
     starts(&at);
-    console::form(b"; checkpoints %", [s.marks, 0, 0, 0, 0]);
+    console::form(b"; checkpoints %; free", [s.marks, 0, 0, 0, 0]);
     let numbers = s.free;
     free(&numbers, s.interval);
     table(rows, s.interval);

@@ -105,8 +105,8 @@ returns-4 c = let t = c .before in rw (c .told4 .ensures) (turned-did _ (is-chec
 add-told : tie.Need-add-told
 add-told c = omega arith
 
-add-t34 : tie.Need-add-t34
-add-t34 c = omega arith
+add-t33 : tie.Need-add-t33
+add-t33 c = omega arith
 
 told-requires-5 : tie.Need-told-requires-5
 told-requires-5 c κs = omega arith
@@ -190,7 +190,7 @@ make-spec =
     told-requires-4
     returns-4
     add-told
-    add-t34
+    add-t33
     told-requires-5
     returns-5
     told-requires-6
