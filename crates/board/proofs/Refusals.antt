@@ -1,12 +1,12 @@
 -- What each call is refused for, check by check, off the array of a session. Assumes nothing.
-use mathlib.Core.Path.{_≡_, refl, sym, ap, _∙_, fun-ext}
+use mathlib.Core.Path.{_≡_, refl, sym, ap, _∙_}
 use mathlib.Core.Bool.{true}
 use mathlib.Core.List.{List, [], _∷_}
 use mathlib.Core.Option.{Option, none, some}
 use Prim.Native.Nat.{ℕ, _+_, _*_, _≤_, _<_}
 use native.Mathlib.Omega.{arith}
 use borrow.Author.Tests.{le-leb, lt-leb}
-use lib.ListN.{getD, replicate}
+use lib.ListN.{getD}
 use Rattle.model.specs.Refusals.{Refusal, Check, firstRefusal}
 use Rattle.model.specs.Loop.{Use, size, opAt, OpOk}
 use Rattle.model.specs.File.{loopOf}
@@ -14,7 +14,6 @@ use Rattle.model.specs.Legality.{Placing, firstBreach}
 use Rattle.model.specs.Counts.{single, used, placeClash, ownClash}
 use Rattle.model.specs.Session.{placedIn, isPlaced, absent, taken, late, unmet, clashed, nowhere, checks, place, force, remove}
 use Rattle.model.specs.Table.{rowBase, cellsOf}
-use Rattle.model.proofs.Lists.{getD-filled}
 use Rattle.model.proofs.File.{accepted-ok}
 use Rattle.model.proofs.Good.{New, new-passed}
 use Rattle.model.proofs.Checks.{refusal-append, refusal-early, found-refused, found-passed}
@@ -22,7 +21,7 @@ use Rattle.refusals.specs.Checked.{refusalOf}
 use Rattle.reservation.specs.declared.Place.{Place}
 use Rattle.reservation.specs.declared.Place.the-variants as place
 use Rattle.reservation.specs.Place.{firstMet, placeOf, placeIs, InRange, OwnPlace}
-use Rattle.reservation.specs.Seats.{seatOf, seats}
+use Rattle.reservation.specs.Seats.{seats}
 use Rattle.reservation.proofs.Seats.{seat-none, seat-some}
 use Rattle.reservation.proofs.Placings.{legal-digits}
 use Rattle.reservation.proofs.TakenCells.{found-range}
@@ -96,10 +95,6 @@ clash-says (place.Taken k s) (some q) e =
     let same : _≡_ {A = ℕ × ℕ} (k, s) (q .0, q .1 .slot) = cc in
     ap (λ (x : ℕ × ℕ). some (record { number = 17; detail = 32 * x .0 + x .1 })) same
 
--- an empty array places nothing
-blank-nowhere : (n : ℕ) → seats (replicate n 65535) ≡ nowhere
-blank-nowhere n = fun-ext (λ o. ap seatOf (getD-filled n o 65535))
-
 -- ---- placing
 
 module _ (f : List ℕ) (ii h : ℕ) (xs rows : List ℕ) (b : Board f ii h xs rows) (o t : ℕ) where
@@ -158,16 +153,16 @@ module _ (f : List ℕ) (ii h : ℕ) (xs : List ℕ) (o t : ℕ) where
   pub force-early : (r : Refusal) → firstRefusal (common f h o t xs) ≡ some r → firstRefusal (checks (setupAs f ii h) (force o t) (bare f xs)) ≡ some r
   force-early r e = refusal-early (common f h o t xs) own r e
 
-  module _ (so-far : firstRefusal (common f h o t xs) ≡ none) (n : ℕ) where
+  module _ (so-far : firstRefusal (common f h o t xs) ≡ none) where
     -- by a dependence of the operation with itself
-    pub force-broken : (e : ℕ) → firstBreach (loopOf f) ii (seats (replicate n 65535)) o t ≡ some e
+    pub force-broken : (e : ℕ) → firstBreach (loopOf f) ii nowhere o t ≡ some e
         → firstRefusal (checks (setupAs f ii h) (force o t) (bare f xs)) ≡ some (record { number = 16; detail = e })
-    force-broken e q = refusal-append (common f h o t xs) own so-far ∙ found-refused 16 _ e _ (ap (λ (g : Placing). firstBreach (loopOf f) ii g o t) (sym (blank-nowhere n)) ∙ q)
+    force-broken e q = refusal-append (common f h o t xs) own so-far ∙ found-refused 16 _ e _ q
 
-    module _ (held : firstBreach (loopOf f) ii (seats (replicate n 65535)) o t ≡ none) where
+    module _ (held : firstBreach (loopOf f) ii nowhere o t ≡ none) where
       -- where the operation meets itself decides
       force-held : firstRefusal (checks (setupAs f ii h) (force o t) (bare f xs)) ≡ firstRefusal (clashed (ownClash ii (opAt (loopOf f) o) t) ∷ [])
-      force-held = refusal-append (common f h o t xs) own so-far ∙ found-passed 16 _ _ (ap (λ (g : Placing). firstBreach (loopOf f) ii g o t) (sym (blank-nowhere n)) ∙ held)
+      force-held = refusal-append (common f h o t xs) own so-far ∙ found-passed 16 _ _ held
 
       pub force-last : (r : Place) → OwnPlace ii (opAt (loopOf f) o) r → refusalOf (asClash r) ≡ firstRefusal (checks (setupAs f ii h) (force o t) (bare f xs))
       force-last r e = clash-says r (ownClash ii (opAt (loopOf f) o) t) (e t) ∙ sym force-held

@@ -5,6 +5,7 @@ use refusals::Checked;
 use reservation::Broken;
 use reservation::Place;
 use reservation::deps::first_broken;
+use reservation::deps::first_own_broken;
 use reservation::number;
 use reservation::test::conflict;
 use reservation::test::own_place;
@@ -98,8 +99,7 @@ pub fn forceable(
     let Checked::Fine = first else {
         return first;
     };
-    let nobody = [65535u16; 64];
-    let broken = first_broken(file, op, start, interval, &nobody);
+    let broken = first_own_broken(file, op, start, interval);
     let Broken::Nothing = broken else {
         return unmet(broken);
     };

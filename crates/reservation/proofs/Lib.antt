@@ -5,6 +5,7 @@ pub mod UseNumbers
 pub mod Tables
 pub mod Free
 pub mod Seats
+pub mod Breaches
 pub mod TakenCells
 pub mod Fits
 pub mod Overlaps

@@ -11,6 +11,7 @@ ghost use lib.ListN.{length};
 ghost use Rattle.model.specs.Loop.{size, depAt};
 ghost use Rattle.model.specs.File.{loopOf, Accepted};
 ghost use Rattle.model.specs.Legality.{holds, breaks, firstBreach};
+ghost use Rattle.model.specs.Session.{nowhere};
 ghost use Rattle.reservation.specs.Seats.{seats, startIn, brokenOf};
 
 // Whether dependence e holds with its source started at `from` and its target at `to`.
@@ -73,6 +74,36 @@ pub fn first_broken(file: &[u8], op: usize, start: usize, interval: usize, start
     let mut e = 0;
     while e < m {
         if breaks_at(file, e, op, start, interval, starts) {
+            return Broken::At(e);
+        }
+        e = e + 1;
+    }
+    Broken::Nothing
+}
+
+// Whether dependence e is one of `op` with itself, and is broken by `op` at `start`.
+fn breaks_itself(file: &[u8], e: usize, op: usize, start: usize, interval: usize) -> bool
+    requires { ⌜ Accepted (now file) × (e < length (loopOf (now file) .deps)) × (start ≤ 4096) × (interval ≤ 4096) ⌝ }
+    ensures { λ r. ⌜ r ≡ breaks interval nowhere op start (depAt (loopOf (now (file .entry))) e) ⌝ }
+{
+    if source(file, e) != op {
+        return false;
+    }
+    if target(file, e) != op {
+        return false;
+    }
+    !dep_holds(file, e, start, start, interval)
+}
+
+// The first dependence of `op` with itself that `op` at `start` would break.
+pub fn first_own_broken(file: &[u8], op: usize, start: usize, interval: usize) -> Broken
+    requires { ⌜ Accepted (now file) × (start ≤ 4096) × (interval ≤ 4096) ⌝ }
+    ensures { λ r. ⌜ brokenOf r ≡ firstBreach (loopOf (now (file .entry))) interval nowhere op start ⌝ }
+{
+    let m = dep_count(file);
+    let mut e = 0;
+    while e < m {
+        if breaks_itself(file, e, op, start, interval) {
             return Broken::At(e);
         }
         e = e + 1;

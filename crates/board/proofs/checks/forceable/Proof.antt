@@ -2,16 +2,15 @@
 use mathlib.Core.Path.{_≡_, sym, ap, _∙_}
 use mathlib.Core.Bool.{true}
 use mathlib.Core.Option.{none}
-use Prim.Native.Nat.{ℕ}
 use native.Mathlib.Omega.{arith}
-use lib.ListN.{replicate, length-replicate}
 use Rattle.model.specs.Refusals.{firstRefusal}
 use Rattle.model.specs.Legality.{firstBreach}
 use Rattle.model.specs.Loop.{opAt}
 use Rattle.model.specs.File.{loopOf}
 use Rattle.model.specs.Counts.{single, unused}
+use Rattle.model.specs.Session.{nowhere}
 use Rattle.model.proofs.File.{accepted-ok}
-use Rattle.reservation.specs.Seats.{seats, brokenOf}
+use Rattle.reservation.specs.Seats.{brokenOf}
 use Rattle.reservation.proofs.TakenCells.{found-range}
 use Rattle.refusals.specs.Checked.{refusalOf}
 use Rattle.board.specs.Checks.{asUnmet}
@@ -42,15 +41,12 @@ returns c =
 known-is : (c : tie.After-enum-told) → let a = start (c .before .before) .args in firstRefusal (common (a .file .now) (a .horizon) (a .op) (a .start) (a .starts .now)) ≡ none
 known-is c = sym (c .before .before .known .ensures) ∙ ap refusalOf (c .enum-told .given .1)
 
-slice-aggregate-first-broken : tie.Need-slice-aggregate-first-broken
-slice-aggregate-first-broken c = omega arith
-
-first-broken-requires : tie.Need-first-broken-requires
-first-broken-requires c κs =
-    let k = c .before .before .before in
+first-own-broken-requires : tie.Need-first-own-broken-requires
+first-own-broken-requires c κs =
+    let k = c .before .before in
     let a = start k .args in
     let p = start k .pre in
-    (p .0, omega (arith, known (a .file .now) (a .horizon) (a .op) (a .start) (a .starts .now) (known-is (c .before)) .soon, p .1 .far), p .1 .short, rw (length-replicate {A = ℕ} 64 65535) (accepted-ok (a .file .now) (p .0) .few))
+    (p .0, omega (arith, known (a .file .now) (a .horizon) (a .op) (a .start) (a .starts .now) (known-is c) .soon, p .1 .far), p .1 .short)
 
 enum-told-3 : tie.Need-enum-told-3
 enum-told-3 c = omega arith
@@ -65,32 +61,32 @@ returns-2 : tie.Need-returns-2
 returns-2 c =
     let b = c .before in
     let w = b .before .before in
-    let t = w .before .before in
+    let t = w .before in
     let a = start (t .before .before) .args in
     ap refusalOf (c .unmet .ensures ∙ ap asUnmet (b .enum-told4 .given .1))
-    ∙ sym (force-broken (a .file .now) (a .interval) (a .horizon) (a .starts .now) (a .op) (a .start) (known-is t) 64 _ (sym (w .first-broken .ensures) ∙ ap brokenOf (b .enum-told4 .given .1)))
+    ∙ sym (force-broken (a .file .now) (a .interval) (a .horizon) (a .starts .now) (a .op) (a .start) (known-is t) _ (sym (w .first-own-broken .ensures) ∙ ap brokenOf (b .enum-told4 .given .1)))
 
 -- no dependence of the operation with itself is broken
-held-is : (c : tie.After-enum-told3) → let a = start (c .before .before .before .before .before .before) .args in firstBreach (loopOf (a .file .now)) (a .interval) (seats (replicate 64 65535)) (a .op) (a .start) ≡ none
-held-is c = sym (c .before .before .first-broken .ensures) ∙ ap brokenOf (c .enum-told3 .given .1)
+held-is : (c : tie.After-enum-told3) → let a = start (c .before .before .before .before .before) .args in firstBreach (loopOf (a .file .now)) (a .interval) nowhere (a .op) (a .start) ≡ none
+held-is c = sym (c .before .before .first-own-broken .ensures) ∙ ap brokenOf (c .enum-told3 .given .1)
 
 first-use-requires : tie.Need-first-use-requires
 first-use-requires c κs =
-    let t = c .before .before .before .before in
+    let t = c .before .before .before in
     let k = t .before .before in
     let a = start k .args in
     (start k .pre .0, known (a .file .now) (a .horizon) (a .op) (a .start) (a .starts .now) (known-is t) .inside)
 
 own-place-requires : tie.Need-own-place-requires
 own-place-requires c κs =
-    let t = c .before .before .before .before .before in
+    let t = c .before .before .before .before in
     let k = t .before .before in
     let a = start k .args in
     let p = start k .pre in
     (p .0, known (a .file .now) (a .horizon) (a .op) (a .start) (a .starts .now) (known-is t) .inside, p .1 .some, p .1 .short, c .first-use .ensures)
 
 abbrev told : tie.After-own-place → tie.After-enum-told
-told c = c .before .before .before .before .before .before
+told c = c .before .before .before .before .before
 
 clash-requires : tie.Need-clash-requires
 clash-requires c κs =
@@ -107,7 +103,7 @@ returns-3 c =
     let t = told f in
     let a = start (t .before .before) .args in
     ap refusalOf (c .clash .ensures)
-    ∙ force-last (a .file .now) (a .interval) (a .horizon) (a .starts .now) (a .op) (a .start) (known-is t) 64 (held-is (f .before .before)) (f .own-place .result) (f .own-place .ensures)
+    ∙ force-last (a .file .now) (a .interval) (a .horizon) (a .starts .now) (a .op) (a .start) (known-is t) (held-is (f .before .before)) (f .own-place .result) (f .own-place .ensures)
 
 pub forceable-spec : {M : Type 1} → statement M
 forceable-spec =
@@ -117,8 +113,7 @@ forceable-spec =
     enum-told
     enum-told-2
     returns
-    slice-aggregate-first-broken
-    first-broken-requires
+    first-own-broken-requires
     enum-told-3
     enum-told-4
     unmet-requires
