@@ -176,7 +176,6 @@ pub record AtStart (f starts₀ rows₀ : List ℕ) (op n ii h left from to : �
 -- the three answers of a start that was tried
 pub record AfterProbe (f starts₀ rows₀ : List ℕ) (op n ii h left : ℕ) (later rows : List ℕ) (r : Found) (s : ℕ) : Type 0 where
   pub same : rows ≡ rows₀
-  pub same-length : length later ≡ length starts₀
   pub if-all : (k : ℕ) → r ≡ All k → Done (below f starts₀ op n ii h left) n op (take op starts₀) starts₀ later (All k)
   pub if-spent : r ≡ Spent → Done (below f starts₀ op n ii h left) n op (take op starts₀) starts₀ later Spent
   pub if-none : (k : ℕ) → r ≡ Nothing k → AtProbe f starts₀ rows₀ op n ii h left later rows k (s + 1)
@@ -335,7 +334,6 @@ module _ {f starts₀ rows₀ : List ℕ} {op n ii h : ℕ} (ready : Ready f sta
       pub turned : {rows₁ : List ℕ} → rows₁ ≡ rows → AfterProbe f starts₀ rows₀ op n ii h left later rows₁ r s
       turned same = record {
         same = same ∙ turn .rows-same;
-        same-length = tried .same-length ∙ turn .same-length;
         if-all = finds;
         if-spent = stops;
         if-none = λ k. goes-on k same;

@@ -33,7 +33,7 @@ pub enum Found {
 // The starts of operation `op` and of those after it.
 pub fn choose(
     file: &[u8],
-    starts: &mut [u16],
+    starts: &mut [u16; 64],
     rows: &mut [u64],
     op: usize,
     n: usize,
@@ -53,32 +53,34 @@ pub fn choose(
     let w = window_of(file, &links, op, starts, interval, horizon);
     pick(
         file,
+        rows,
+        w,
+        left,
         &links,
         starts,
-        rows,
         op,
         first,
         n,
         interval,
         horizon,
-        w,
-        left,
     )
 }
 
-// The same where an operation is left, with the index of the dependences, the number of its first use and its window at hand.
+// The same where an operation is left, with the index of the dependences, the number of its first use and its window at hand. Every operation placed has a call of it
+// on the stack, so its parameters stand in an order that keeps this small: first what it needs only once, which is passed in registers, last what it needs again after a deeper call, which is passed on the stack and then stands there. The
+// starts are an array and not a slice, which would have a length to hand on.
 fn pick(
     file: &[u8],
-    links: &[u16; 320],
-    starts: &mut [u16],
     rows: &mut [u64],
+    w: Window,
+    left: usize,
+    links: &[u16; 320],
+    starts: &mut [u16; 64],
     op: usize,
     first: usize,
     n: usize,
     interval: usize,
     horizon: usize,
-    w: Window,
-    left: usize,
 ) -> Found
     requires { ⌜ MayPick (now file) (now starts) (now rows) op n interval horizon first (w .from) (w .to) × Linked (loopOf (now file)) (now links) ⌝ }
     ensures done { λ r. ⌜ Done (below (now (file .entry)) (now (starts .entry)) op n interval horizon left) n op (take op (now (starts .entry))) (now (starts .entry)) (now (starts .exit)) r ⌝ }
@@ -94,16 +96,16 @@ fn pick(
         }
         let f = try_start(
             file,
+            rows,
+            s,
+            purse - passed - 1,
             links,
             starts,
-            rows,
             op,
             first,
             n,
             interval,
             horizon,
-            s,
-            purse - passed - 1,
         );
         match f {
             Found::All(l) => {
@@ -130,16 +132,16 @@ fn pick(
 // The number of the first use, `first`, is handed in, and that of the next operation is as many more as this one has uses.
 fn try_start(
     file: &[u8],
-    links: &[u16; 320],
-    starts: &mut [u16],
     rows: &mut [u64],
+    s: usize,
+    left: usize,
+    links: &[u16; 320],
+    starts: &mut [u16; 64],
     op: usize,
     first: usize,
     n: usize,
     interval: usize,
     horizon: usize,
-    s: usize,
-    left: usize,
 ) -> Found
     requires { ⌜ MayTry (now file) (now starts) (now rows) op n interval horizon s first × Linked (loopOf (now file)) (now links) ⌝ }
     ensures done { λ r. ⌜ Done (branch (now (file .entry)) (now (starts .entry)) op n interval horizon s left) n op (take op (now (starts .entry)) ++ s ∷ []) (now (starts .entry)) (now (starts .exit)) r ⌝ }
@@ -163,16 +165,16 @@ fn try_start(
     let next = first + use_count(file, op);
     let f = pick(
         file,
+        rows,
+        w,
+        left,
         links,
         starts,
-        rows,
         op + 1,
         next,
         n,
         interval,
         horizon,
-        w,
-        left,
     );
     release(file, op, first, s, interval, rows);
     f

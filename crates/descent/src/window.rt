@@ -46,7 +46,14 @@ fn too_late(file: &[u8], e: usize, start: usize, interval: usize) -> usize
 }
 
 // The window, narrowed by dependence e where it is one of the operation with itself or an earlier one.
-fn narrowed(file: &[u8], e: usize, op: usize, starts: &[u16], interval: usize, w: Window) -> Window
+fn narrowed(
+    file: &[u8],
+    e: usize,
+    op: usize,
+    starts: &[u16; 64],
+    interval: usize,
+    w: Window,
+) -> Window
     requires { ⌜ Accepted (now file) × (e < length (loopOf (now file) .deps)) × (op < size (loopOf (now file))) × (op ≤ length (now starts)) × Early op (now starts) × (interval ≤ 4096) ⌝ }
     ensures { λ r. ⌜ NarrowedIs (loopOf (now (file .entry))) interval (take op (now (starts .entry))) e (w .from) (w .to) (r .from) (r .to) ⌝ }
 {
@@ -123,7 +130,7 @@ pub fn window_of(
     file: &[u8],
     links: &[u16; 320],
     op: usize,
-    starts: &[u16],
+    starts: &[u16; 64],
     interval: usize,
     horizon: usize,
 ) -> Window

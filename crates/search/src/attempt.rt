@@ -11,6 +11,11 @@ ghost use mathlib.Core.Path.{_≡_};
 ghost use Rattle.search.specs.Answer.{Passed, Attempted};
 ghost use Rattle.search.specs.Sweep.{keptOf};
 
+// The starts of the operations. They are a field of a struct because a field is known to keep its length over a call; they are lent as a slice, which has to have it.
+struct Starts {
+    at: [u16; 64],
+}
+
 // How many starts the caller's list gets: one for each operation where a list is found, else none.
 fn kept(s: Swept, n: usize) -> usize
     ensures { λ r. ⌜ r ≡ keptOf s n ⌝ }
@@ -38,10 +43,10 @@ pub fn attempt(
     ensures { λ r. ⌜ Attempted (now (file .entry)) resource recurrence cap horizon budget (now (list .entry)) (now (rows .entry)) r (now (list .exit)) (now (rows .exit)) ⌝ }
 {
     clear_rows(rows, 4096);
-    let mut starts = [0u16; 64];
+    let mut starts = Starts { at: [0u16; 64] };
     let swept = sweep(
         file,
-        &mut starts,
+        &mut starts.at,
         rows,
         n,
         larger(resource, recurrence),
@@ -49,13 +54,13 @@ pub fn attempt(
         horizon,
         budget,
     );
-    write_list(list, &starts, kept(swept, n));
+    write_list(list, &starts.at, kept(swept, n));
     match swept {
         Swept::Found(ii, left) => Searched::Found(Solution {
             interval: ii,
             resource: resource,
             recurrence: recurrence,
-            stages: stage_count(file, ii, &starts),
+            stages: stage_count(file, ii, &starts.at),
             probes: budget - left,
         }),
         Swept::Nothing(left) => Searched::Ended(10, cap, budget - left),

@@ -14,7 +14,7 @@ pub enum Swept {
 // The intervals from `least` to the cap in turn, with one budget for all.
 pub fn sweep(
     file: &[u8],
-    starts: &mut [u16],
+    starts: &mut [u16; 64],
     rows: &mut [u64],
     n: usize,
     least: usize,

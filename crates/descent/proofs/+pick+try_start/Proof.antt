@@ -7,7 +7,7 @@ use mathlib.Core.Option.{none}
 use Prim.Native.Nat.{ℕ, _+_, _-_, _*_, _<_}
 use native.Mathlib.Nat.{add-zero}
 use native.Mathlib.Omega.{arith}
-use lib.ListN.{length, set, length-set}
+use lib.ListN.{length, set}
 use borrow.Fn.Kinds.{In}
 use borrow.Fn.PlainCycle.{Measures, is, falls, and}
 use Rattle.model.specs.Loop.{opAt, firstUseOf}
@@ -33,10 +33,10 @@ use Rattle.descent.proofs.+pick+try_start.{statement}
 use Rattle.descent.proofs.+pick+try_start.Tie.{close}
 
 abbrev μ-pick : Measures 4 pick-kinds.ps ℕ
-μ-pick κs a = a .1 .1 .1 .1 .1 .1 .1 .1 .1 .1 .0 * 2 + 1
+μ-pick κs a = a .1 .1 .1 .0 * 2 + 1
 
 abbrev μ-try-start : Measures 4 try-start-kinds.ps ℕ
-μ-try-start κs a = a .1 .1 .1 .1 .1 .1 .1 .1 .1 .1 .0 * 2 + 2
+μ-try-start κs a = a .1 .1 .1 .0 * 2 + 2
 
 abbrev pick-at : ℕ → In 4 pick-kinds.ps
 pick-at t = and 4 pick-kinds.ps (is 4 pick-kinds.ps μ-pick t) pick.Pre
@@ -72,36 +72,33 @@ calls t = (
 )
 
 abbrev pick-Inv-loop : pick-lts.InvT-loop
-pick-Inv-loop file links starts₀ rows₀ op first n interval horizon w left purse₀ paid₀ s₀ starts rows purse paid s =
+pick-Inv-loop file rows₀ w left links starts₀ op first n interval horizon purse₀ paid₀ s₀ rows starts purse paid s =
     AtStart file starts₀ rows₀ op n interval horizon left (w .from) (w .to) starts rows purse paid s
 
 abbrev pick-μ-loop : pick-lts.MeasureT-loop
-pick-μ-loop file links starts₀ rows₀ op first n interval horizon w left purse₀ paid₀ s₀ starts rows purse paid s = horizon - s
+pick-μ-loop file rows₀ w left links starts₀ op first n interval horizon purse₀ paid₀ s₀ rows starts purse paid s = horizon - s
 
 -- ---- pick
 
 pick-next-free-requires : (t : ℕ) → pick-lts.Need-next-free-requires (tries t) (pick-at t) pick.Post pick-Inv-loop pick-μ-loop
 pick-next-free-requires t c κs =
-    let b = c .before .before .before .before in
+    let b = c .before .before .before in
     let p = b .pre .1 in
     (rows-of (p .0 .ready) (p .0 .inside) (p .0 .first-is) refl, p .0 .window .ordered, omega (arith, p .0 .window .near, p .0 .ready .near))
 
 pick-loop-holds : (t : ℕ) → pick-lts.Need-loop-holds (tries t) (pick-at t) pick.Post pick-Inv-loop pick-μ-loop
 pick-loop-holds t c =
-    let p = c .before .before .before .before .before .pre .1 in enters (p .0 .ready) (p .0 .window) (p .0 .inside) (c .next-free .ensures)
+    let p = c .before .before .before .before .pre .1 in enters (p .0 .ready) (p .0 .window) (p .0 .inside) (c .next-free .ensures)
 
 -- the entry of pick, from its loop's head
 abbrev entry : (t : ℕ) → pick-lts.At-loop (tries t) (pick-at t) pick.Post pick-Inv-loop pick-μ-loop → pick-lts.Start (tries t) (pick-at t) pick.Post pick-Inv-loop pick-μ-loop
-entry t g = g .before .before .before .before .before .before
+entry t g = g .before .before .before .before .before
 
 pick-sub-passed : (t : ℕ) → pick-lts.Need-sub-passed (tries t) (pick-at t) pick.Post pick-Inv-loop pick-μ-loop
 pick-sub-passed t c = omega (arith, c .before .before .loop .inv .behind)
 
 pick-same-length : (t : ℕ) → pick-lts.Need-same-length (tries t) (pick-at t) pick.Post pick-Inv-loop pick-μ-loop
-pick-same-length t c = c .before .before .before .loop .inv .turn .same-length
-
-pick-same-length-2 : (t : ℕ) → pick-lts.Need-same-length-2 (tries t) (pick-at t) pick.Post pick-Inv-loop pick-μ-loop
-pick-same-length-2 t c = ap (λ (l : List ℕ). length l) (c .before .before .before .loop .inv .turn .rows-same)
+pick-same-length t c = ap (λ (l : List ℕ). length l) (c .before .before .before .loop .inv .turn .rows-same)
 
 pick-returns : (t : ℕ) → pick-lts.Need-returns (tries t) (pick-at t) pick.Post pick-Inv-loop pick-μ-loop
 pick-returns t c =
@@ -110,10 +107,10 @@ pick-returns t c =
     (breaks (p .0 .ready) (p .0 .window) (p .0 .inside) (g .loop .inv) (c .before .if1 .taken) (c .if2 .taken), g .loop .inv .turn .rows-same)
 
 pick-sub-try-start : (t : ℕ) → pick-lts.Need-sub-try-start (tries t) (pick-at t) pick.Post pick-Inv-loop pick-μ-loop
-pick-sub-try-start t c = omega (arith, c .before .before .if2 .left)
+pick-sub-try-start t c = omega (arith, c .before .if2 .left)
 
 pick-sub-try-start-2 : (t : ℕ) → pick-lts.Need-sub-try-start-2 (tries t) (pick-at t) pick.Post pick-Inv-loop pick-μ-loop
-pick-sub-try-start-2 t c = omega (arith, c .before .before .if2 .left)
+pick-sub-try-start-2 t c = omega (arith, c .before .if2 .left)
 
 -- where the start is to be tried
 at : (t : ℕ) (e : pick-lts.Else2 (tries t) (pick-at t) pick.Post pick-Inv-loop pick-μ-loop)
@@ -145,7 +142,7 @@ there : (t : ℕ) (f : pick-lts.After-try-start (tries t) (pick-at t) pick.Post 
     → let g = f .before .before .before .before .before .before in
     let a = entry t g .args in
     AfterProbe (a .file .now) (a .starts .now) (a .rows .now) (a .op) (a .n) (a .interval) (a .horizon) (a .left)
-    (f .try-start .last .1 .1 .0) (f .try-start .last .1 .1 .1 .0) (f .try-start .result) (g .loop .s)
+    (f .try-start .last .1 .1 .1 .1 .1 .0) (f .try-start .last .1 .0) (f .try-start .result) (g .loop .s)
 there t f =
     let e = f .before .before .before in
     let g = e .before .before .before in
@@ -154,33 +151,27 @@ there t f =
 pick-enum-known-f : (t : ℕ) → pick-lts.Need-enum-known-f (tries t) (pick-at t) pick.Post pick-Inv-loop pick-μ-loop
 pick-enum-known-f t c = c .match .keys1
 
-pick-same-length-3 : (t : ℕ) → pick-lts.Need-same-length-3 (tries t) (pick-at t) pick.Post pick-Inv-loop pick-μ-loop
-pick-same-length-3 t c = there t (c .before .before .before .before .before .before .before) .same-length
-
-pick-same-length-4 : (t : ℕ) → pick-lts.Need-same-length-4 (tries t) (pick-at t) pick.Post pick-Inv-loop pick-μ-loop
-pick-same-length-4 t c = ap (λ (l : List ℕ). length l) (there t (c .before .before .before .before .before .before .before) .same)
+pick-same-length-2 : (t : ℕ) → pick-lts.Need-same-length-2 (tries t) (pick-at t) pick.Post pick-Inv-loop pick-μ-loop
+pick-same-length-2 t c = ap (λ (l : List ℕ). length l) (there t (c .before .before .before .before .before) .same)
 
 pick-returns-2 : (t : ℕ) → pick-lts.Need-returns-2 (tries t) (pick-at t) pick.Post pick-Inv-loop pick-μ-loop
-pick-returns-2 t c = let h = there t (c .before .before .before .before .before .before .before) in (h .if-all _ (c .before .f .given .1), h .same)
+pick-returns-2 t c = let h = there t (c .before .before .before .before .before) in (h .if-all _ (c .before .f .given .1), h .same)
 
 pick-enum-told : (t : ℕ) → pick-lts.Need-enum-told (tries t) (pick-at t) pick.Post pick-Inv-loop pick-μ-loop
 pick-enum-told t c = c .match .keys2
 
-pick-same-length-5 : (t : ℕ) → pick-lts.Need-same-length-5 (tries t) (pick-at t) pick.Post pick-Inv-loop pick-μ-loop
-pick-same-length-5 t c = there t (c .before .before .before .before .before .before) .same-length
-
-pick-same-length-6 : (t : ℕ) → pick-lts.Need-same-length-6 (tries t) (pick-at t) pick.Post pick-Inv-loop pick-μ-loop
-pick-same-length-6 t c = ap (λ (l : List ℕ). length l) (there t (c .before .before .before .before .before .before) .same)
+pick-same-length-3 : (t : ℕ) → pick-lts.Need-same-length-3 (tries t) (pick-at t) pick.Post pick-Inv-loop pick-μ-loop
+pick-same-length-3 t c = ap (λ (l : List ℕ). length l) (there t (c .before .before .before .before) .same)
 
 pick-returns-3 : (t : ℕ) → pick-lts.Need-returns-3 (tries t) (pick-at t) pick.Post pick-Inv-loop pick-μ-loop
-pick-returns-3 t c = let h = there t (c .before .before .before .before .before .before) in (h .if-spent (c .enum-told .given .1), h .same)
+pick-returns-3 t c = let h = there t (c .before .before .before .before) in (h .if-spent (c .enum-told .given .1), h .same)
 
 pick-enum-known-f-2 : (t : ℕ) → pick-lts.Need-enum-known-f-2 (tries t) (pick-at t) pick.Post pick-Inv-loop pick-μ-loop
 pick-enum-known-f-2 t c = c .match .keys3
 
 -- at the end of a turn: where it began
 abbrev turn : (t : ℕ) → pick-lts.After-known-told2 (tries t) (pick-at t) pick.Post pick-Inv-loop pick-μ-loop → pick-lts.Then1 (tries t) (pick-at t) pick.Post pick-Inv-loop pick-μ-loop
-turn t c = c .before .before .before .before .before .before .before .before .before .before .before
+turn t c = c .before .before .before .before .before .before .before .before .before
 
 pick-add-paid : (t : ℕ) → pick-lts.Need-add-paid (tries t) (pick-at t) pick.Post pick-Inv-loop pick-μ-loop
 pick-add-paid t c = omega (arith, near t (turn t c), entry t (turn t c .before .before) .fits .horizon)
@@ -190,7 +181,7 @@ pick-next-free-requires-2 t c κs =
     let d = c .before in
     let i = turn t d in
     let p = entry t (i .before .before) .pre .1 in
-    (rows-of (p .0 .ready) (p .0 .inside) (p .0 .first-is) (there t (d .before .before .before .before .before .before .before) .same), omega (arith, i .if1 .taken), omega (arith, p .0 .window .near, p .0 .ready .near))
+    (rows-of (p .0 .ready) (p .0 .inside) (p .0 .first-is) (there t (d .before .before .before .before .before) .same), omega (arith, i .if1 .taken), omega (arith, p .0 .window .near, p .0 .ready .near))
 
 pick-loop-less : (t : ℕ) → pick-lts.Need-loop-less (tries t) (pick-at t) pick.Post pick-Inv-loop pick-μ-loop
 pick-loop-less t c = let i = turn t (c .before .before) in omega (arith, near t i, c .next-free2 .ensures .behind)
@@ -200,16 +191,13 @@ pick-loop-again t c =
     let d = c .before .before in
     let i = turn t d in
     let p = entry t (i .before .before) .pre .1 in
-    moves (p .0 .ready) (p .0 .window) (p .0 .inside) (there t (d .before .before .before .before .before .before .before) .if-none _ (d .before .f2 .given .1)) (c .next-free2 .ensures) (omega (arith, i .before .before .loop .inv .begun))
+    moves (p .0 .ready) (p .0 .window) (p .0 .inside) (there t (d .before .before .before .before .before) .if-none _ (d .before .f2 .given .1)) (c .next-free2 .ensures) (omega (arith, i .before .before .loop .inv .begun))
 
 pick-sub-above : (t : ℕ) → pick-lts.Need-sub-above (tries t) (pick-at t) pick.Post pick-Inv-loop pick-μ-loop
 pick-sub-above t c = c .before .before .loop .inv .turn .within
 
-pick-same-length-7 : (t : ℕ) → pick-lts.Need-same-length-7 (tries t) (pick-at t) pick.Post pick-Inv-loop pick-μ-loop
-pick-same-length-7 t c = c .before .before .before .loop .inv .turn .same-length
-
-pick-same-length-8 : (t : ℕ) → pick-lts.Need-same-length-8 (tries t) (pick-at t) pick.Post pick-Inv-loop pick-μ-loop
-pick-same-length-8 t c = ap (λ (l : List ℕ). length l) (c .before .before .before .loop .inv .turn .rows-same)
+pick-same-length-4 : (t : ℕ) → pick-lts.Need-same-length-4 (tries t) (pick-at t) pick.Post pick-Inv-loop pick-μ-loop
+pick-same-length-4 t c = ap (λ (l : List ℕ). length l) (c .before .before .before .loop .inv .turn .rows-same)
 
 pick-returns-4 : (t : ℕ) → pick-lts.Need-returns-4 (tries t) (pick-at t) pick.Post pick-Inv-loop pick-μ-loop
 pick-returns-4 t c =
@@ -217,11 +205,8 @@ pick-returns-4 t c =
     let p = entry t g .pre .1 in
     (breaks-above (p .0 .ready) (p .0 .window) (p .0 .inside) (g .loop .inv) (c .before .if1 .left) (c .if3 .taken), g .loop .inv .turn .rows-same)
 
-pick-same-length-9 : (t : ℕ) → pick-lts.Need-same-length-9 (tries t) (pick-at t) pick.Post pick-Inv-loop pick-μ-loop
-pick-same-length-9 t c = c .before .before .before .loop .inv .turn .same-length
-
-pick-same-length-10 : (t : ℕ) → pick-lts.Need-same-length-10 (tries t) (pick-at t) pick.Post pick-Inv-loop pick-μ-loop
-pick-same-length-10 t c = ap (λ (l : List ℕ). length l) (c .before .before .before .loop .inv .turn .rows-same)
+pick-same-length-5 : (t : ℕ) → pick-lts.Need-same-length-5 (tries t) (pick-at t) pick.Post pick-Inv-loop pick-μ-loop
+pick-same-length-5 t c = ap (λ (l : List ℕ). length l) (c .before .before .before .loop .inv .turn .rows-same)
 
 pick-returns-5 : (t : ℕ) → pick-lts.Need-returns-5 (tries t) (pick-at t) pick.Post pick-Inv-loop pick-μ-loop
 pick-returns-5 t c =
@@ -233,7 +218,7 @@ pick-returns-5 t c =
 
 try-start-excluded-requires : (t : ℕ) → try-start-lts.Need-excluded-requires (calls t) (try-start-at t) try-start.Post
 try-start-excluded-requires t c κs =
-    let p = c .before .before .before .before .pre .1 .0 in (rows-of (p .ready) (p .inside) (p .first-is) refl, omega (arith, p .start-near, p .ready .near))
+    let p = c .before .before .before .pre .1 .0 in (rows-of (p .ready) (p .inside) (p .first-is) refl, omega (arith, p .start-near, p .ready .near))
 
 try-start-same-length : (t : ℕ) → try-start-lts.Need-same-length (calls t) (try-start-at t) try-start.Post
 try-start-same-length t c = refl
@@ -241,7 +226,7 @@ try-start-same-length t c = refl
 try-start-returns : (t : ℕ) → try-start-lts.Need-returns (calls t) (try-start-at t) try-start.Post
 try-start-returns t c =
     let k = c .before in
-    let b = k .before .before .before .before .before in
+    let b = k .before .before .before .before in
     let p = b .pre .1 .0 in
     (unfit p (λ e. k .excluded .ensures .taken 0 (c .if1 .taken) (ap (λ (x : ℕ). firstMet rowBase (b .args .interval) (b .args .rows .now) x (opAt (loopOf (b .args .file .now)) (b .args .op) .uses)) (add-zero (b .args .s)) ∙ e)), refl)
 
@@ -251,7 +236,7 @@ Passed t = try-start-lts.Else1 (calls t) (try-start-at t) try-start.Post
 
 -- the entry of try_start, from there
 abbrev first : (t : ℕ) → Passed t → try-start-lts.Start (calls t) (try-start-at t) try-start.Post
-first t f = f .before .before .before .before .before .before
+first t f = f .before .before .before .before .before
 
 -- nothing is taken there
 free : (t : ℕ) (f : Passed t) → let a = first t f .args in firstMet rowBase (a .interval) (a .rows .now) (a .s) (opAt (loopOf (a .file .now)) (a .op) .uses) ≡ none
@@ -263,8 +248,8 @@ try-start-cast-starts t c = let p = first t c .pre .1 .0 in omega (arith, p .sta
 try-start-mul-starts : (t : ℕ) → try-start-lts.Need-mul-starts (calls t) (try-start-at t) try-start.Post
 try-start-mul-starts t c = omega (arith, op-few (first t c .pre .1 .0))
 
-try-start-slice-write-starts : (t : ℕ) → try-start-lts.Need-slice-write-starts (calls t) (try-start-at t) try-start.Post
-try-start-slice-write-starts t c = let p = first t c .pre .1 .0 in omega (arith, p .inside, p .ready .long)
+try-start-element-write-starts : (t : ℕ) → try-start-lts.Need-element-write-starts (calls t) (try-start-at t) try-start.Post
+try-start-element-write-starts t c = omega (arith, op-few (first t c .pre .1 .0))
 
 -- the search one operation deeper, with the rows as they would be with it
 next-ready : (t : ℕ) (f : Passed t) → let a = first t f .args in
@@ -276,10 +261,7 @@ try-start-add-if2 : (t : ℕ) → try-start-lts.Need-add-if2 (calls t) (try-star
 try-start-add-if2 t c = omega (arith, op-few (first t c .pre .1 .0))
 
 try-start-same-length-2 : (t : ℕ) → try-start-lts.Need-same-length-2 (calls t) (try-start-at t) try-start.Post
-try-start-same-length-2 t c = simp length-set
-
-try-start-same-length-3 : (t : ℕ) → try-start-lts.Need-same-length-3 (calls t) (try-start-at t) try-start.Post
-try-start-same-length-3 t c = refl
+try-start-same-length-2 t c = refl
 
 try-start-returns-2 : (t : ℕ) → try-start-lts.Need-returns-2 (calls t) (try-start-at t) try-start.Post
 try-start-returns-2 t c =
@@ -301,11 +283,8 @@ try-start-window-of-requires t c κs =
     let r = next-ready t (d .before) in
     (r .accepted, b .pre .1 .1, omega (arith, r .is-size, further t d), omega (arith, r .long, further t d), r .early, r .short)
 
-try-start-same-length-4 : (t : ℕ) → try-start-lts.Need-same-length-4 (calls t) (try-start-at t) try-start.Post
-try-start-same-length-4 t c = simp length-set
-
-try-start-same-length-5 : (t : ℕ) → try-start-lts.Need-same-length-5 (calls t) (try-start-at t) try-start.Post
-try-start-same-length-5 t c = refl
+try-start-same-length-3 : (t : ℕ) → try-start-lts.Need-same-length-3 (calls t) (try-start-at t) try-start.Post
+try-start-same-length-3 t c = refl
 
 try-start-returns-3 : (t : ℕ) → try-start-lts.Need-returns-3 (calls t) (try-start-at t) try-start.Post
 try-start-returns-3 t c =
@@ -315,11 +294,8 @@ try-start-returns-3 t c =
     let b = first t (d .before) in
     (back (b .pre .1 .0) (b .args .left) (breaks-empty (next-ready t (d .before)) (w .window-of .ensures) (further t d) (v .if3 .taken) (c .if4 .taken)), refl)
 
-try-start-same-length-6 : (t : ℕ) → try-start-lts.Need-same-length-6 (calls t) (try-start-at t) try-start.Post
-try-start-same-length-6 t c = simp length-set
-
-try-start-same-length-7 : (t : ℕ) → try-start-lts.Need-same-length-7 (calls t) (try-start-at t) try-start.Post
-try-start-same-length-7 t c = refl
+try-start-same-length-4 : (t : ℕ) → try-start-lts.Need-same-length-4 (calls t) (try-start-at t) try-start.Post
+try-start-same-length-4 t c = refl
 
 try-start-returns-4 : (t : ℕ) → try-start-lts.Need-returns-4 (calls t) (try-start-at t) try-start.Post
 try-start-returns-4 t c =
@@ -335,7 +311,7 @@ try-start-reserve-requires t c κs =
     (p .ready .accepted, omega (arith, p .inside, p .ready .is-size), can-reserve p (free t (c .before .before .before .before .before .before)), p .first-is)
 
 -- where the operation is reserved
-abbrev kept : (t : ℕ) → try-start-lts.After-slice-known3 (calls t) (try-start-at t) try-start.Post → try-start-lts.After-reserve (calls t) (try-start-at t) try-start.Post
+abbrev kept : (t : ℕ) → try-start-lts.After-slice-known2 (calls t) (try-start-at t) try-start.Post → try-start-lts.After-reserve (calls t) (try-start-at t) try-start.Post
 kept t c = c .before .before
 
 -- and where its test was passed
@@ -375,27 +351,23 @@ passed t w = before t (put t w)
 
 try-start-release-requires : (t : ℕ) → try-start-lts.Need-release-requires (calls t) (try-start-at t) try-start.Post
 try-start-release-requires t c κs =
-    let w = c .before .before .before .before .before in
+    let w = c .before .before .before in
     let p = first t (passed t w) .pre .1 .0 in
     (p .ready .accepted, omega (arith, p .inside, p .ready .is-size), can-release p (free t (passed t w)) (put t w .reserve .ensures) (w .pick .ensures .1), p .first-is)
 
 -- at the end: the call
-abbrev call : (t : ℕ) → try-start-lts.After-slice-known6 (calls t) (try-start-at t) try-start.Post → try-start-lts.After-pick (calls t) (try-start-at t) try-start.Post
-call t c = c .before .before .before .before .before .before .before .before
+abbrev call : (t : ℕ) → try-start-lts.After-slice-known4 (calls t) (try-start-at t) try-start.Post → try-start-lts.After-pick (calls t) (try-start-at t) try-start.Post
+call t c = c .before .before .before .before .before .before
 
 -- and the rows as they were
-as-before : (t : ℕ) (c : try-start-lts.After-slice-known6 (calls t) (try-start-at t) try-start.Post)
+as-before : (t : ℕ) (c : try-start-lts.After-slice-known4 (calls t) (try-start-at t) try-start.Post)
     → c .before .before .release .last .1 .1 .1 .1 .1 .0 ≡ first t (passed t (call t c)) .args .rows .now
 as-before t c =
     let w = call t c in
     given-back (first t (passed t w) .pre .1 .0) (free t (passed t w)) (put t w .reserve .ensures) (w .pick .ensures .1) (c .before .before .release .ensures)
 
-try-start-same-length-8 : (t : ℕ) → try-start-lts.Need-same-length-8 (calls t) (try-start-at t) try-start.Post
-try-start-same-length-8 t c =
-    let b = first t (passed t (call t c)) in back (b .pre .1 .0) (b .args .left) (call t c .pick .ensures .0) .same-length
-
-try-start-same-length-9 : (t : ℕ) → try-start-lts.Need-same-length-9 (calls t) (try-start-at t) try-start.Post
-try-start-same-length-9 t c = ap (λ (l : List ℕ). length l) (as-before t c)
+try-start-same-length-5 : (t : ℕ) → try-start-lts.Need-same-length-5 (calls t) (try-start-at t) try-start.Post
+try-start-same-length-5 t c = ap (λ (l : List ℕ). length l) (as-before t c)
 
 try-start-returns-5 : (t : ℕ) → try-start-lts.Need-returns-5 (calls t) (try-start-at t) try-start.Post
 try-start-returns-5 t c =
@@ -411,18 +383,15 @@ pub +pick+try-start-spec : {M : Type 1} → statement M
     (pick-loop-holds t)
     (pick-sub-passed t)
     (pick-same-length t)
-    (pick-same-length-2 t)
     (pick-returns t)
     (pick-sub-try-start t)
     (pick-sub-try-start-2 t)
     (pick-try-start-requires t)
     (pick-enum-known-f t)
-    (pick-same-length-3 t)
-    (pick-same-length-4 t)
+    (pick-same-length-2 t)
     (pick-returns-2 t)
     (pick-enum-told t)
-    (pick-same-length-5 t)
-    (pick-same-length-6 t)
+    (pick-same-length-3 t)
     (pick-returns-3 t)
     (pick-enum-known-f-2 t)
     (pick-add-paid t)
@@ -430,11 +399,9 @@ pub +pick+try-start-spec : {M : Type 1} → statement M
     (pick-loop-less t)
     (pick-loop-again t)
     (pick-sub-above t)
-    (pick-same-length-7 t)
-    (pick-same-length-8 t)
+    (pick-same-length-4 t)
     (pick-returns-4 t)
-    (pick-same-length-9 t)
-    (pick-same-length-10 t)
+    (pick-same-length-5 t)
     (pick-returns-5 t))
     λ t. try-start-lts.spec (calls t)
     (try-start-at t)
@@ -444,18 +411,15 @@ pub +pick+try-start-spec : {M : Type 1} → statement M
     (try-start-returns t)
     (try-start-cast-starts t)
     (try-start-mul-starts t)
-    (try-start-slice-write-starts t)
+    (try-start-element-write-starts t)
     (try-start-add-if2 t)
     (try-start-same-length-2 t)
-    (try-start-same-length-3 t)
     (try-start-returns-2 t)
     (try-start-add-window-of t)
     (try-start-window-of-requires t)
-    (try-start-same-length-4 t)
-    (try-start-same-length-5 t)
+    (try-start-same-length-3 t)
     (try-start-returns-3 t)
-    (try-start-same-length-6 t)
-    (try-start-same-length-7 t)
+    (try-start-same-length-4 t)
     (try-start-returns-4 t)
     (try-start-reserve-requires t)
     (try-start-use-count-requires t)
@@ -463,6 +427,5 @@ pub +pick+try-start-spec : {M : Type 1} → statement M
     (try-start-add-pick t)
     (try-start-pick-requires t)
     (try-start-release-requires t)
-    (try-start-same-length-8 t)
-    (try-start-same-length-9 t)
+    (try-start-same-length-5 t)
     (try-start-returns-5 t)

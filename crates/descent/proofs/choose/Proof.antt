@@ -6,7 +6,7 @@ use Rattle.descent.proofs.choose.Statement.{statement}
 use Rattle.descent.proofs.choose.Tie as tie
 
 returns : tie.Need-returns
-returns c = (leaf (c .before .before .before .before .pre) (c .if1 .taken), refl)
+returns c = (leaf (c .before .before .before .pre) (c .if1 .taken), refl)
 
 link-requires : tie.Need-link-requires
 link-requires c κs = search needs
@@ -23,13 +23,10 @@ pick-requires c κs = (record { ready = search needs; inside = search needs; fir
 same-length : tie.Need-same-length
 same-length c = search needs
 
-same-length-2 : tie.Need-same-length-2
-same-length-2 c = search needs
-
 returns-2 : tie.Need-returns-2
 returns-2 c = search needs
 
 pub choose-spec : {M : Type 1} → statement M
 choose-spec =
     tie.close
-    (tie.spec returns link-requires first-use-requires window-of-requires pick-requires same-length same-length-2 returns-2)
+    (tie.spec returns link-requires first-use-requires window-of-requires pick-requires same-length returns-2)

@@ -4,6 +4,7 @@ use native.Mathlib.Omega.{arith}
 use borrow.Author.Needs.{needs}
 use lib.ListN.{getD}
 use Rattle.model.specs.File.{loopOf}
+use Rattle.model.proofs.File.{accepted-ok}
 use Rattle.descent.proofs.Spans.{Narrowing, apart, free-target, free-source, self-broken, self-kept, source-late, source-kept, target-early, target-kept}
 use Rattle.descent.proofs.window.narrowed.Statement.{statement}
 use Rattle.descent.proofs.window.narrowed.Tie as tie
@@ -18,7 +19,7 @@ too-late-requires : tie.Need-too-late-requires
 too-late-requires c κs = search needs
 
 abbrev start : tie.After-target → tie.Start
-start u = u .before .before .before .before
+start u = u .before .before .before
 
 -- what the laws ask for: the starts before op, and the ends of the dependence
 ends : (u : tie.After-target)
@@ -32,11 +33,15 @@ returns c = let v = c .before .before in self-broken (ends (v .before .before)) 
 returns-2 : tie.Need-returns-2
 returns-2 c = let v = c .before .before in self-kept (ends (v .before .before)) _ (v .before .if1 .taken) (v .if2 .taken) (c .before .too-late .ensures) (c .if3 .left)
 
-mul-too-late : tie.Need-mul-too-late
-mul-too-late c = omega arith
+-- there are at most 64 operations
+few : (s : tie.Start) → s .args .op < 64
+few s = omega (arith, s .pre .2, accepted-ok (s .args .file .now) (s .pre .0) .few)
 
-shared-slice-read-too-late : tie.Need-shared-slice-read-too-late
-shared-slice-read-too-late c = omega arith
+mul-too-late : tie.Need-mul-too-late
+mul-too-late c = omega (arith, few (start (c .before .before .before)))
+
+element-copy-out-too-late : tie.Need-element-copy-out-too-late
+element-copy-out-too-late c = omega (arith, few (start (c .before .before .before)))
 
 -- an earlier operation's start is below 4,096
 early : (s : tie.Start) (p : ℕ) → p < s .args .op → getD (s .args .starts .now) p 0 < 4096
@@ -67,10 +72,10 @@ returns-5 : tie.Need-returns-5
 returns-5 c = let v = c .before in free-target (ends (v .before .before)) (v .before .if1 .taken) (v .if2 .left) (c .if4 .left)
 
 mul-earliest : tie.Need-mul-earliest
-mul-earliest c = omega arith
+mul-earliest c = omega (arith, few (start (c .before .before .before)))
 
-shared-slice-read-earliest : tie.Need-shared-slice-read-earliest
-shared-slice-read-earliest c = omega arith
+element-copy-out-earliest : tie.Need-element-copy-out-earliest
+element-copy-out-earliest c = omega (arith, few (start (c .before .before .before)))
 
 cast-earliest : tie.Need-cast-earliest
 cast-earliest c = let v = c .before in omega (arith, early (start (v .before .before .before)) (v .before .before .before .before .source .result) (v .if7 .taken))
@@ -109,14 +114,14 @@ narrowed-spec =
     returns
     returns-2
     mul-too-late
-    shared-slice-read-too-late
+    element-copy-out-too-late
     cast-too-late
     too-late-requires-2
     returns-3
     returns-4
     returns-5
     mul-earliest
-    shared-slice-read-earliest
+    element-copy-out-earliest
     cast-earliest
     earliest-requires
     returns-6

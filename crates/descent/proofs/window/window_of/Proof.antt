@@ -22,30 +22,30 @@ abbrev μ-loop : tie.MeasureT-loop
 μ-loop file links op starts interval horizon m w₀ e₀ w e = m - e
 
 dep-count-requires : tie.Need-dep-count-requires Inv-loop μ-loop
-dep-count-requires c κs = c .before .before .pre .0
+dep-count-requires c κs = c .before .pre .0
 
 -- the loop is in order
 ok : (s : tie.Start Inv-loop μ-loop) → LoopOk (loopOf (s .args .file .now))
 ok s = accepted-ok (s .args .file .now) (s .pre .0)
 
 mul-e : tie.Need-mul-e Inv-loop μ-loop
-mul-e c = let s = c .before .before .before in omega (arith, s .pre .2, ok s .few)
+mul-e c = let s = c .before .before in omega (arith, s .pre .2, ok s .few)
 
 element-copy-out-e : tie.Need-element-copy-out-e Inv-loop μ-loop
-element-copy-out-e c = let s = c .before .before .before in omega (arith, s .pre .2, ok s .few)
+element-copy-out-e c = let s = c .before .before in omega (arith, s .pre .2, ok s .few)
 
 -- the entry of the operation
 first : (c : tie.After-dep-count Inv-loop μ-loop)
-    → let s = c .before .before .before in NextDep (loopOf (s .args .file .now)) (s .args .op) 0 (getD (s .args .links .now) (s .args .op) 0)
-first c = let s = c .before .before .before in s .pre .1 .head (s .args .op) (s .pre .2)
+    → let s = c .before .before in NextDep (loopOf (s .args .file .now)) (s .args .op) 0 (getD (s .args .links .now) (s .args .op) 0)
+first c = let s = c .before .before in s .pre .1 .head (s .args .op) (s .pre .2)
 
 cast-e : tie.Need-cast-e Inv-loop μ-loop
-cast-e c = omega (arith, first (c .before) .within, ok (c .before .before .before .before) .sparse)
+cast-e c = omega (arith, first (c .before) .within, ok (c .before .before .before) .sparse)
 
 loop-holds : tie.Need-loop-holds Inv-loop μ-loop
 loop-holds c =
     let d = c .before in
-    let s = d .before .before .before in
+    let s = d .before .before in
     let n = first d in (
       omega (arith, n .within, d .dep-count .ensures),
       λ l. n .is (omega (arith, d .dep-count .ensures)),
@@ -53,7 +53,7 @@ loop-holds c =
     )
 
 abbrev start : tie.At-loop Inv-loop μ-loop → tie.Start Inv-loop μ-loop
-start h = h .before .before .before .before .before
+start h = h .before .before .before .before
 
 -- e is a dependence
 here : (c : tie.In-loop Inv-loop μ-loop) → c .before .loop .e < length (loopOf (start (c .before) .args .file .now) .deps)

@@ -9,9 +9,6 @@ use Rattle.search.proofs.attempt.attempt.Tie as tie
 clear-rows-requires : tie.Need-clear-rows-requires
 clear-rows-requires c κs = omega arith
 
-slice-aggregate-sweep : tie.Need-slice-aggregate-sweep
-slice-aggregate-sweep c = omega arith
-
 larger-requires : tie.Need-larger-requires
 larger-requires c κs = omega arith
 
@@ -28,15 +25,12 @@ sweep-requires c κs = clears _ _ (start c .args .resource) _ (start c .pre) ref
 
 -- ---- once the intervals are swept
 
-slice-aggregate-write-list : tie.Need-slice-aggregate-write-list
-slice-aggregate-write-list c = omega arith
-
 kept-requires : tie.Need-kept-requires
 kept-requires c κs = omega arith
 
 -- the sweep, from before the write
 abbrev sweeping : tie.After-kept → tie.After-sweep
-sweeping c = c .before .before .before .before .before .before
+sweeping c = c .before .before .before .before .before .before .before
 
 write-list-requires : tie.Need-write-list-requires
 write-list-requires c κs = let s = sweeping c in list-room (s .sweep .last .1 .0) (s .sweep .result) _ (start (s .before) .pre) (search needs) (c .kept .ensures)
@@ -66,9 +60,6 @@ come c =
 enum-known-swept : tie.Need-enum-known-swept
 enum-known-swept c = omega arith
 
-slice-aggregate-stage-count : tie.Need-slice-aggregate-stage-count
-slice-aggregate-stage-count c = omega arith
-
 -- the write, from where the answer has a list, where it has none, and where the budget is spent
 abbrev found-at : tie.After-swept → tie.After-write-list
 found-at c = c .before .before .before .before
@@ -80,11 +71,11 @@ abbrev spent-at : tie.After-swept3 → tie.After-write-list
 spent-at c = c .before .before .before .before
 
 stage-count-requires : tie.Need-stage-count-requires
-stage-count-requires c κs = entry (found-at (c .before .before)) .pre .accepted
+stage-count-requires c κs = entry (found-at (c .before .before .before .before)) .pre .accepted
 
 sub-t32 : tie.Need-sub-t32
 sub-t32 c =
-    let m = c .before .before .before in
+    let m = c .before .before .before .before .before in
     let w = found-at m in
     omega (arith, left-within (entry w .pre) (come w) _ (m .swept .given .1))
 
@@ -107,7 +98,7 @@ same-length-2 c = omega arith
 
 returns : tie.Need-returns
 returns c =
-    let m = c .before .before .before in
+    let m = c .before .before .before .before .before in
     let w = found-at m in
     finds (entry w .pre) (come w) _ _ _ (m .swept .given .1) (c .stage-count .ensures)
 
@@ -138,14 +129,11 @@ attempt-spec =
     tie.close
     (tie.spec
     clear-rows-requires
-    slice-aggregate-sweep
     larger-requires
     sweep-requires
-    slice-aggregate-write-list
     kept-requires
     write-list-requires
     enum-known-swept
-    slice-aggregate-stage-count
     stage-count-requires
     sub-t32
     enum-known-swept-2
