@@ -104,13 +104,14 @@ pub fn place(s: Session, rows: &mut [u64], op: usize, start: usize) -> After
     requires { ⌜ Valid s (now rows) ⌝ }
     ensures { λ r. ⌜ Stepped (model.place op start) s (now (rows .entry)) (r .session) (now (rows .exit)) (r .reply) ⌝ }
 {
-    let length = s.length;
-    let interval = s.interval;
-    let horizon = s.horizon;
-    let mut starts = s.starts;
-    let mut free = s.free;
+    let mut t = s;
+    let length = t.length;
+    let interval = t.interval;
+    let horizon = t.horizon;
+    let mut starts = t.starts;
+    let mut free = t.free;
     let reply = free_rows::place(
-        &s.file,
+        &t.file,
         length,
         interval,
         horizon,
@@ -120,7 +121,6 @@ pub fn place(s: Session, rows: &mut [u64], op: usize, start: usize) -> After
         rows,
         &mut free,
     );
-    let mut t = s;
     t.starts = starts;
     t.free = free;
     After {
@@ -134,13 +134,14 @@ pub fn force(s: Session, rows: &mut [u64], op: usize, start: usize) -> After
     requires { ⌜ Valid s (now rows) ⌝ }
     ensures { λ r. ⌜ Stepped (model.force op start) s (now (rows .entry)) (r .session) (now (rows .exit)) (r .reply) ⌝ }
 {
-    let length = s.length;
-    let interval = s.interval;
-    let horizon = s.horizon;
-    let mut starts = s.starts;
-    let mut free = s.free;
+    let mut t = s;
+    let length = t.length;
+    let interval = t.interval;
+    let horizon = t.horizon;
+    let mut starts = t.starts;
+    let mut free = t.free;
     let reply = free_rows::force(
-        &s.file,
+        &t.file,
         length,
         interval,
         horizon,
@@ -150,7 +151,6 @@ pub fn force(s: Session, rows: &mut [u64], op: usize, start: usize) -> After
         rows,
         &mut free,
     );
-    let mut t = s;
     t.starts = starts;
     t.free = free;
     After {
@@ -164,12 +164,12 @@ pub fn remove(s: Session, rows: &mut [u64], op: usize) -> After
     requires { ⌜ Valid s (now rows) ⌝ }
     ensures { λ r. ⌜ Stepped (model.remove op) s (now (rows .entry)) (r .session) (now (rows .exit)) (r .reply) ⌝ }
 {
-    let length = s.length;
-    let interval = s.interval;
-    let mut starts = s.starts;
-    let mut free = s.free;
-    let reply = free_rows::remove(&s.file, length, interval, op, &mut starts, rows, &mut free);
     let mut t = s;
+    let length = t.length;
+    let interval = t.interval;
+    let mut starts = t.starts;
+    let mut free = t.free;
+    let reply = free_rows::remove(&t.file, length, interval, op, &mut starts, rows, &mut free);
     t.starts = starts;
     t.free = free;
     After {
@@ -183,20 +183,20 @@ pub fn checkpoint(s: Session, rows: &[u64]) -> After
     requires { ⌜ Valid s (now rows) ⌝ }
     ensures { λ r. ⌜ Stepped model.checkpoint s (now (rows .entry)) (r .session) (now (rows .entry)) (r .reply) ⌝ }
 {
-    let n = s.marks;
+    let mut t = s;
+    let n = t.marks;
     if 16 <= n {
         return After {
-            session: s,
+            session: t,
             reply: Reply::Refused(18, 0),
         };
     }
-    let starts = s.starts;
-    let free = s.free;
+    let starts = t.starts;
+    let free = t.free;
     let kept = Kept {
         starts: starts,
         free: free,
     };
-    let mut t = s;
     t.saved[n] = kept;
     t.marks = n + 1;
     After {
@@ -210,14 +210,14 @@ pub fn release(s: Session, rows: &[u64]) -> After
     requires { ⌜ Valid s (now rows) ⌝ }
     ensures { λ r. ⌜ Stepped model.release s (now (rows .entry)) (r .session) (now (rows .entry)) (r .reply) ⌝ }
 {
-    let n = s.marks;
+    let mut t = s;
+    let n = t.marks;
     if n == 0 {
         return After {
-            session: s,
+            session: t,
             reply: Reply::Refused(19, 0),
         };
     }
-    let mut t = s;
     t.marks = n - 1;
     After {
         session: t,
@@ -230,25 +230,25 @@ pub fn rollback(s: Session, rows: &mut [u64], m: usize) -> After
     requires { ⌜ Valid s (now rows) ⌝ }
     ensures { λ r. ⌜ Stepped (model.rollback m) s (now (rows .entry)) (r .session) (now (rows .exit)) (r .reply) ⌝ }
 {
+    let mut t = s;
     if m == 0 {
         return After {
-            session: s,
+            session: t,
             reply: Reply::Refused(19, 0),
         };
     }
-    if s.marks < m {
+    if t.marks < m {
         return After {
-            session: s,
+            session: t,
             reply: Reply::Refused(19, 0),
         };
     }
-    let length = s.length;
-    let interval = s.interval;
-    let wanted = s.saved[m - 1];
-    let mut starts = s.starts;
-    moves::restore(&s.file, length, interval, &wanted.starts, &mut starts, rows);
+    let length = t.length;
+    let interval = t.interval;
+    let wanted = t.saved[m - 1];
+    let mut starts = t.starts;
+    moves::restore(&t.file, length, interval, &wanted.starts, &mut starts, rows);
     let free = wanted.free;
-    let mut t = s;
     t.starts = starts;
     t.free = free;
     t.marks = m;

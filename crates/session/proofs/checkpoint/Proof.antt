@@ -16,11 +16,11 @@ element-set-from-kept c = omega arith
 add-t : tie.Need-add-t
 add-t c = omega arith
 
-add-t10 : tie.Need-add-t10
-add-t10 c = omega arith
+add-t11 : tie.Need-add-t11
+add-t11 c = omega arith
 
 returns-2 : tie.Need-returns-2
 returns-2 c = let e = c .before .before in let s = e .before in stepped-checkpoint (s .args .s) (s .args .rows .now) (s .pre) (e .if1 .left)
 
 pub checkpoint-spec : {M : Type 1} → statement M
-checkpoint-spec = tie.close (tie.spec returns mul-kept element-set-from-kept add-t add-t10 returns-2)
+checkpoint-spec = tie.close (tie.spec returns mul-kept element-set-from-kept add-t add-t11 returns-2)

@@ -17,7 +17,7 @@ returns : tie.Need-returns
 returns c =
     let m = c .before .before in
     let s = m .before .before .before .before .before .before .before .before .before .before in
-    stepped-plain (s .args .t1) (s .args .rows .now) (s .pre) (model.force (s .args .op) (s .args .start)) (λ a cs. refl) (λ a cs. refl) (m .force .ensures)
+    stepped-plain (s .args .s) (s .args .rows .now) (s .pre) (model.force (s .args .op) (s .args .start)) (λ a cs. refl) (λ a cs. refl) (m .force .ensures)
 
 pub force-spec : {M : Type 1} → statement M
 force-spec = tie.close (tie.spec force-requires same-length returns)

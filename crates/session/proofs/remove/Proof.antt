@@ -18,7 +18,7 @@ returns : tie.Need-returns
 returns c =
     let m = c .before .before in
     let s = m .before .before .before .before .before .before .before .before .before .before in
-    stepped-plain (s .args .t1) (s .args .rows .now) (s .pre) (model.remove (s .args .op)) (λ a cs. refl) (λ a cs. refl) (m .remove .ensures .0 (s .args .t1 .horizon) (s .pre .board), m .remove .ensures .1)
+    stepped-plain (s .args .s) (s .args .rows .now) (s .pre) (model.remove (s .args .op)) (λ a cs. refl) (λ a cs. refl) (m .remove .ensures .0 (s .args .s .horizon) (s .pre .board), m .remove .ensures .1)
 
 pub remove-spec : {M : Type 1} → statement M
 remove-spec = tie.close (tie.spec remove-requires same-length returns)

@@ -7,10 +7,10 @@ use Rattle.session.proofs.rollback.Statement.{statement}
 use Rattle.session.proofs.rollback.Tie as tie
 
 returns : tie.Need-returns
-returns c = let s = c .before .before in no-mark (s .args .t1) (s .args .rows .now) (s .pre) (s .args .m) (c .if1 .taken)
+returns c = let s = c .before .before in no-mark (s .args .s) (s .args .rows .now) (s .pre) (s .args .m) (c .if1 .taken)
 
 returns-2 : tie.Need-returns-2
-returns-2 c = let e = c .before in let s = e .before .before in not-open (s .args .t1) (s .args .rows .now) (s .pre) (s .args .m) (e .if1 .left) (c .if2 .taken)
+returns-2 c = let e = c .before in let s = e .before .before in not-open (s .args .s) (s .args .rows .now) (s .pre) (s .args .m) (e .if1 .left) (c .if2 .taken)
 
 sub-wanted : tie.Need-sub-wanted
 sub-wanted c = omega arith
@@ -26,7 +26,7 @@ restore-requires c κs =
     let t = c .before .before .before .before .before .before .before .before .before in
     let s = t .before .before .before in
     let v = s .pre in
-    (omega (arith, v .stored, v .fits-in), board-far (v .board), sane-more (v .board .numbers .far) (wanted-sane (s .args .t1) (s .args .rows .now) v (s .args .m) (t .before .if1 .left) (t .if2 .left) (record { starts = []; free = [] })))
+    (omega (arith, v .stored, v .fits-in), board-far (v .board), sane-more (v .board .numbers .far) (wanted-sane (s .args .s) (s .args .rows .now) v (s .args .m) (t .before .if1 .left) (t .if2 .left) (record { starts = []; free = [] })))
 
 same-length : tie.Need-same-length
 same-length c = omega arith
@@ -37,7 +37,7 @@ returns-3 c =
     let t = r .before .before .before .before .before .before .before .before .before .before in
     let s = t .before .before .before in
     rw (r .restore .ensures .starts-are)
-    (stepped-rollback (s .args .t1) (s .args .rows .now) (s .pre) (s .args .m) (t .before .if1 .left) (t .if2 .left) (record { starts = []; free = [] }) (r .restore .ensures))
+    (stepped-rollback (s .args .s) (s .args .rows .now) (s .pre) (s .args .m) (t .before .if1 .left) (t .if2 .left) (record { starts = []; free = [] }) (r .restore .ensures))
 
 pub rollback-spec : {M : Type 1} → statement M
 rollback-spec =
