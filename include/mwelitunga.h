@@ -9,6 +9,8 @@
  *   pass the address of any object of that type.
  * - What is written (answer; buffer of mw_write; starts and rows of mw_search and mw_plan; rows, replies, starts and free_rows of mw_session)
  *   may not overlap anything else that is passed to the same call. Nothing is kept after the call, and there is no hidden state.
+ * - Of stack, mw_search and mw_plan take less than 20 KB, mw_session less than 8 KB, and each other function less than 1 KB. This is measured
+ *   and not proved (docs/BENCH.md, "Stack").
  *
  * For mw_read, mw_write, mw_bounds, mw_verify, mw_search, mw_plan and mw_session:
  * - The result is 0, or the number of the refusal, MW_REFUSED_...; the first check that fails gives it.
