@@ -119,7 +119,8 @@ static void make_file(void) {
 }
 
 /* All that a file holds: 64 operations, 256 uses, 256 dependences. The operations stand in a ring with a delay of 64 at each step and a distance
- * of 1 at one; further dependences go two, three and five steps along it. At 4,096, its recurrence bound, all fit one after the other. */
+ * of 1 at one; further dependences go two, three and five steps along it. At 4,096, its recurrence bound, all fit one after the other. (It is
+ * the loop `largest` of bench/loops.py, of which mw_write takes the numbers here.) */
 static void longest(void) {
     static const int steps[] = {1, 2, 3, 5};
     no_loop();
