@@ -1,5 +1,7 @@
 // Starts of the placed operations and the rows that hold them, on slices: what each call of a session is refused for, and what it does. Internal: each function asks that the rows are
 // the table of the starts; the session's calls and the replay of a list of calls share them.
+#![tactic(auto)]
+
 pub mod checks;
 pub mod moves;
 
@@ -12,7 +14,7 @@ use loop_access::first_use;
 use reservation::cells::{release, reserve};
 
 // What a call answers: done; the operations that were displaced, bit i for operation i; the number of the new checkpoint; or a refusal with its number and detail.
-#[derive(Drop)]
+#[derive(Clone, Copy)]
 pub enum Reply {
     Done,
     Displaced(u64),

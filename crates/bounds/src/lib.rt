@@ -1,4 +1,6 @@
 // The two lower bounds of the initiation interval (document 01) of any file: its entry point. The bounds of an accepted file are worked out in the crate `lower_bounds`.
+#![tactic(auto)]
+
 ghost use Rattle.std.specs.Prelude.{◌≡◌};
 ghost use Rattle.model.specs.Bounds.{BoundsIs};
 ghost use Rattle.lower_bounds.specs.Answer.{bounds_of};

@@ -1,5 +1,7 @@
 // Bundles of files (document 02, order 6): the reading of any bytes, a bundle's files by number, and a reader that holds the bundle and the number of the next file. The reader's functions take it apart and
 // call the functions on the slice and the number, which do the work.
+#![tactic(auto)]
+
 ghost use Rattle.std.specs.Prelude.{◌≡◌, ◌<◌, length};
 ghost use Rattle.model.specs.Bundle.{read_bundle, files, count_in, has_file, file_at, begin_of, next_after};
 ghost use Rattle.bundle.specs.Answer.{bundled_of};

@@ -3,6 +3,7 @@ ghost use Rattle.std.specs.Prelude.{◌≡◌, ◌≤◌, length};
 ghost use Rattle.io.specs.Counts.{IsPrefixLen};
 
 use crate::line::text;
+use std::io::{Read, Stdin};
 
 // What was read: whether the input came whole, to its end with no read that failed, and how many bytes at the start of the buffer are kept of it.
 #[derive(Drop)]
@@ -27,41 +28,39 @@ struct Step {
 }
 
 // Reads once, and puts what came behind the first `have` bytes, as far as there is room. Only a read of no bytes is the end of the input: one of few is not.
-fn read_once(bytes: &mut [u8], have: usize) -> Step
+fn read_once(from: &mut Stdin, bytes: &mut [u8], have: usize) -> Step
     requires { have ≤ length bytes.old }
     ensures { (result.have ≤ length bytes.new) × (length bytes.new ≡ length bytes.old) }
 {
     let mut chunk = io::buffer();
-    let got = libc::read(0, &mut chunk);
-    if got < 0 {
-        return Step {
+    match from.read(&mut chunk) {
+        Err(_) => Step {
             have: have,
             went: Went::Failed,
-        };
-    }
-    if got == 0 {
-        return Step {
+        },
+        Ok(0) => Step {
             have: have,
             went: Went::Ended,
-        };
-    }
-    let n = io::count(got, &chunk);
-    let next = text(bytes, have, &chunk[..n]);
-    Step {
-        have: next,
-        went: Went::On,
+        },
+        Ok(n) => {
+            let next = text(bytes, have, &chunk[..n]);
+            Step {
+                have: next,
+                went: Went::On,
+            }
+        }
     }
 }
 
 // Reads to the end: keeps as many bytes as there is room for, and drops the rest. The loop counts its turns down, since nothing says that an input ends, from a number that no input uses up.
-pub fn read_all(bytes: &mut [u8]) -> Input
+pub fn read_all(from: &mut Stdin, bytes: &mut [u8]) -> Input
     ensures prefix_len { IsPrefixLen result.count bytes.new }
     ensures bytes_len_unchanged { length bytes.new ≡ length bytes.old }
 {
     let mut have = 0;
     let mut turns = u64::MAX;
     while turns > 0 {
-        let step = read_once(bytes, have);
+        let step = read_once(from, bytes, have);
         let went = step.went;
         have = step.have;
         match went {

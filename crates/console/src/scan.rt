@@ -1,6 +1,24 @@
 // Numbers read from text.
-ghost use Rattle.std.specs.Prelude.{◌≡◌, ◌+◌, ◌*◌, ◌<◌, min, length, drop};
+ghost use Rattle.std.specs.Prelude.{◌≡◌, ◌≢◌, ℕ, ◌+◌, ◌*◌, ◌<◌, ◌≤◌, min, length, drop, slice_index};
 ghost use Rattle.console.specs.Scan.{begin, figures, value_from, value_at, next_at, places, values};
+
+// The first place from `at` on that holds the byte, or the end of the text.
+pub fn find(text: &[u8], at: usize, byte: u8) -> usize
+    requires { at ≤ length text.now }
+    ensures from { at ≤ result }
+    ensures within { result ≤ length text.now }
+    ensures before { (k : ℕ) → at ≤ k → k < result → slice_index text.now k ≢ byte }
+    ensures found { result < length text.now → slice_index text.now result ≡ byte }
+{
+    let mut i = at;
+    while i < text.len() {
+        if text[i] == byte {
+            return i;
+        }
+        i += 1;
+    }
+    i
+}
 
 // A number that was read, and the place after it.
 #[derive(Drop)]

@@ -3,6 +3,8 @@
 // where that has a start, reserves, lets `pick` go on, and releases. A start that the window or the rows exclude only costs its probe: all those before the next start to
 // try, or after the last, are paid for at once, and so are all starts of an operation whose window has none. A start is paid for before it is tried, so what is left of
 // the budget falls with every turn. Internal: each function asks for an accepted file and rows that hold the operations placed so far.
+#![tactic(auto)]
+
 mod skip;
 mod window;
 

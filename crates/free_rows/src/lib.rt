@@ -1,5 +1,7 @@
 // How many rows each slot has free (document 02, order 4): 24 numbers beside starts and rows, of slots 1 to 24, changed by the durations of the operations that come and go. No function
 // goes over rows. Internal: each asks for the numbers of the rows that it is given, and leaves those of the rows that it leaves.
+#![tactic(auto)]
+
 ghost use Rattle.std.specs.Prelude.{◌≡◌, false, cond, ◌+◌, ◌^◌, ◌≤◌, ◌<◌, length, take};
 ghost use Rattle.model.specs.Loop.{size, op_at, op_on};
 ghost use Rattle.model.specs.File.{loop_of, Accepted};

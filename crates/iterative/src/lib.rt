@@ -1,6 +1,8 @@
 // Iterative modulo scheduling (Rau 1994): a start for each operation, found without a search. The operation of the highest rank is put where it is free or, where it is free nowhere, forced, and what is in its
 // way is taken out and put again later. It is quick and mostly succeeds at the smallest interval that has a schedule; where it does not, nothing is said of whether there is one. Internal: asks for an accepted file and for
 // numbers and lengths in range.
+#![tactic(auto)]
+
 mod attempt;
 mod priority;
 mod timing;

@@ -1,4 +1,6 @@
 // What the programs `schedule` and `plan` both print: a refusal, and the operations of a schedule (document 01).
+#![tactic(auto)]
+
 use loop_file::Reading;
 
 // `refused N at D`.

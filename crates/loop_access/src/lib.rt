@@ -1,5 +1,7 @@
 // What the layers above read of an accepted file, in place of raw offsets. Internal: each asks for an accepted file and a number
 // that is there, and answers what the model's loop has.
+#![tactic(auto)]
+
 pub mod bytes;
 
 ghost use Rattle.std.specs.Prelude.{◌≡◌, ◌+◌, ◌<◌, length, get_or};

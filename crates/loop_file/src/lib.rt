@@ -1,5 +1,7 @@
 // The reader of loop files (document 01): from any bytes to an accepted loop or the first refusal; and the three section bodies. What the layers above read of an
 // accepted file is in the crate `loop_access`.
+#![tactic(auto)]
+
 mod reader;
 
 ghost use Rattle.std.specs.Prelude.{◌≡◌};

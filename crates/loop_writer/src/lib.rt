@@ -1,4 +1,6 @@
 // The writer of loop files (document 02, order 3): from any lists of numbers to the file of the loop that they describe, in a lent buffer, or the first refusal.
+#![tactic(auto)]
+
 mod checks;
 mod put;
 

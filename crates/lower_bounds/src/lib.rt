@@ -1,5 +1,7 @@
 // The two lower bounds of the initiation interval (document 01) of an accepted file: what the slots need, and what cycles of dependences need. Internal: each function asks for an
 // accepted file; `bounds` and the search read the file first.
+#![tactic(auto)]
+
 mod recurrence;
 mod resource;
 

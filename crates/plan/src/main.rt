@@ -1,4 +1,6 @@
 // Reads a loop file from standard input to its end, and prints the planner's schedule, or the refusal.
+#![tactic(auto)]
+
 use planner::{PlanFound, Planned};
 
 // `interval I resource R recurrence B stages S`, and `smallest` where no smaller interval has a schedule, else `legal`.
@@ -36,9 +38,9 @@ fn plan(file: &[u8]) {
 }
 
 // Keeps 1,691 bytes of the input, one more than the longest loop file has.
-fn main() {
+fn main(rt: HostRuntime) {
     let mut bytes = [0u8; 1691];
-    let input = console::read_all(&mut bytes);
+    let input = console::read_all(&mut rt.stdin(), &mut bytes);
     let n = input.count;
     if input.whole {
         plan(&bytes[..n]);

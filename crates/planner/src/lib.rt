@@ -1,5 +1,7 @@
 // The planner: a schedule without a search where that is quick, and the smallest where that is proved. Iterative modulo scheduling finds a legal list, mostly at the larger bound, below which there is none;
 // where it does not meet the bound, the exact search goes through the intervals below what was found.
+#![tactic(auto)]
+
 ghost use Rattle.std.specs.Prelude.{◌≡◌};
 ghost use Rattle.planner.specs.Answer.{Plans};
 ghost use Rattle.planner.specs.Parts.{as_plan_refused, as_plan_unbounded, cap_below, AllPassed, PlanMade, Keepable, Keeps};
@@ -14,7 +16,7 @@ use search::Searched;
 use stages::stage_count;
 
 // A schedule: its interval, the two bounds, the stage count, and whether no smaller interval has one. The starts are in the caller's list.
-#[derive(Drop)]
+#[derive(Clone, Copy)]
 pub struct PlanFound {
     pub interval: usize,
     pub resource: usize,

@@ -1,6 +1,8 @@
 // 1,000 random small loops: the planner against an exhaustive search over all lists of starts (in `judge`), which takes nothing from the library. A list that is found has to be legal by the plain picture and
 // the dependences, and its interval the smallest. Each loop is planned a second time with a budget of one probe, with which the exact search finds no list of two or more starts: a schedule is then the heuristic's
 // own. It is held to the same legality, and how often it has the smallest interval is counted.
+#![tactic(auto)]
+
 mod drawing;
 mod judge;
 mod outcome;

@@ -8,7 +8,7 @@ use trial::picture::UNTOUCHED;
 pub const UNWRITTEN: u16 = 65534;
 
 // An answer: 0 for a schedule, else the refusal's number; of a schedule its interval, the larger bound and whether it is said to be smallest; and what every row of the table has to be then.
-#[derive(Drop)]
+#[derive(Clone, Copy)]
 struct Numbers {
     number: usize,
     interval: usize,
@@ -18,7 +18,7 @@ struct Numbers {
 }
 
 // The answer, the list as it is left, and whether the table is left as it has to be.
-#[derive(Drop)]
+#[derive(Clone, Copy)]
 pub struct Outcome {
     pub number: usize,
     pub interval: usize,

@@ -1,5 +1,7 @@
 // Runs the reader over embedded files, valid and damaged, and prints a line for each. What it must print, the file stdout, was worked
 // out by hand from docs/FORMAT.md.
+#![tactic(auto)]
+
 mod files;
 mod lengths;
 mod show;

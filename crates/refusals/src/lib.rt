@@ -1,4 +1,6 @@
 // What the entry points share of refusals: the answer of a check, and the checks that several of them make. Internal.
+#![tactic(auto)]
+
 ghost use Rattle.std.specs.Prelude.{◌≡◌, [], ◌∷◌};
 ghost use Rattle.model.specs.Refusals.{first_refusal};
 ghost use Rattle.model.specs.Refusals as model;

@@ -1,5 +1,7 @@
 // A list of session calls, three numbers a call: kind, a, b. 1 place(operation, start), 2 force(operation, start), 3 remove(operation), 4 checkpoint, 5 release, 6 rollback(checkpoint).
 // Internal: what `mw_session` is made of.
+#![tactic(auto)]
+
 mod parts;
 
 ghost use Rattle.std.specs.Prelude.{◌≡◌, ◌+◌, ◌*◌, ◌-◌, ◌≤◌, ◌<◌, length};

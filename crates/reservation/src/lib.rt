@@ -1,5 +1,7 @@
 // The modulo reservation table, over an accepted file: whether an operation fits in the rows, reserving and releasing its cells, and which dependence it would
 // break. Internal: the verifier, the session and the search share these functions, and each asks for what it needs.
+#![tactic(auto)]
+
 pub mod cells;
 pub mod clear;
 pub mod deps;

@@ -1,4 +1,6 @@
 // Reads a loop file from standard input to its end, and prints its schedule, or the refusal (document 01).
+#![tactic(auto)]
+
 use search::{Searched, Solution};
 
 // `interval I resource R recurrence B stages S probes P`.
@@ -29,9 +31,9 @@ fn schedule(file: &[u8]) {
 }
 
 // Keeps 1,691 bytes of the input, one more than the longest loop file has.
-fn main() {
+fn main(rt: HostRuntime) {
     let mut bytes = [0u8; 1691];
-    let input = console::read_all(&mut bytes);
+    let input = console::read_all(&mut rt.stdin(), &mut bytes);
     let n = input.count;
     if input.whole {
         schedule(&bytes[..n]);

@@ -1,4 +1,6 @@
 // The search for a schedule (document 01), and what a schedule says of each operation.
+#![tactic(auto)]
+
 mod attempt;
 mod sweep;
 
@@ -10,7 +12,7 @@ use lower_bounds::LowerBounds;
 use refusals::Checked;
 
 // A schedule: its interval, the two bounds, the stage count and the probes that it took. The starts are in the caller's list.
-#[derive(Drop)]
+#[derive(Clone, Copy)]
 pub struct Solution {
     pub interval: usize,
     pub resource: usize,

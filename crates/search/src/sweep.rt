@@ -5,7 +5,7 @@ ghost use Rattle.search.specs.Sweep.{Clear, SweptIs, Within};
 use descent::{Found, choose};
 
 // What the sweep over the intervals comes to: the interval at which a list is found, and what is left of the budget; none, and what is left; the interval at which the budget is spent.
-#[derive(Drop)]
+#[derive(Clone, Copy)]
 pub enum Swept {
     Found(usize, usize),
     Nothing(usize),

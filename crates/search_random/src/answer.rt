@@ -5,7 +5,7 @@ use trial::drawn::NOWHERE;
 use trial::file;
 
 // Six numbers, behind one for the kind of the answer: 0 a schedule, 1 refusal 10 or 11, 2 another refusal. And the starts; a place of the list that is not written keeps the largest number.
-#[derive(Drop)]
+#[derive(Clone, Copy)]
 pub struct Answer {
     pub numbers: [usize; 6],
     pub starts: [u16; 6],

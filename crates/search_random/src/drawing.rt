@@ -4,7 +4,7 @@ use trial::drawn::{Drawn, least};
 use trial::random::{next, pick};
 
 // A loop, tried with its interval as the cap, and the allowance of probes.
-#[derive(Drop)]
+#[derive(Clone, Copy)]
 pub struct Request {
     pub drawn: Drawn,
     pub allowance: usize,

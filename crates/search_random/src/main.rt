@@ -1,5 +1,7 @@
 // 1,000 random small loops: the search against an exhaustive one over all lists of starts (in `words`), which takes nothing from the library. It compares the answer, with its
 // bounds, stages and probes, and the list.
+#![tactic(auto)]
+
 mod answer;
 mod drawing;
 mod lower;

@@ -1,6 +1,8 @@
 // The session (document 01): a modulo reservation table in which operations are placed, forced, removed, checkpointed and rolled back. A session is a value: each call
 // takes it and hands back the next one, and the caller keeps the table of rows. The work is done in the crates `board` and `free_rows`, on slices; here it is joined to the session's fields. A call moves
 // the session into a variable of its own first and uses nothing else of it, so that almost 5 KB stand in its frame once.
+#![tactic(auto)]
+
 mod checks;
 mod store;
 
@@ -15,7 +17,7 @@ pub use refusals::Checked;
 use reservation::clear::clear_rows;
 
 // What a checkpoint keeps (document 01: a mark): the starts, and the numbers of free rows.
-#[derive(Drop)]
+#[derive(Clone, Copy)]
 pub struct Kept {
     pub starts: [u16; 64],
     pub free: [u16; 24],
@@ -23,7 +25,7 @@ pub struct Kept {
 
 // What a session holds: a copy of its file and how long that is; the interval and the horizon; a start for each operation, 65,535 where it is not placed (document 01: seats); for each slot,
 // 1 to 24, how many rows of the table have it free (document 02, order 4); how many checkpoints are open (document 01: marks), and what each keeps.
-#[derive(Drop)]
+#[derive(Clone, Copy)]
 pub struct Session {
     pub file: [u8; LONGEST],
     pub length: usize,
@@ -36,7 +38,7 @@ pub struct Session {
 }
 
 // The session after a call, and the answer.
-#[derive(Drop)]
+#[derive(Clone, Copy)]
 pub struct After {
     pub session: Session,
     pub reply: Reply,

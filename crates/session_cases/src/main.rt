@@ -1,6 +1,8 @@
 // Sessions of a table, which is read from standard input (the file stdin says how a line of it reads): a line for each opening, and below it a line for each call, with what it leaves
 // in the session and in the lent table. What it must print, the file stdout, was worked out by hand from document 01; the numbers of free rows (document 02, order 4) were computed by
 // another program, from the rows that a line shows and again from its starts.
+#![tactic(auto)]
+
 mod show;
 
 ghost use Rattle.session.specs.View.{Valid};
@@ -11,7 +13,7 @@ use trial::drawn::least;
 use trial::loops::put_changed;
 
 // A line of the table, as far as it is a call: its kind, 0 for an opening, and two numbers. Any kind beyond 6 is none, a comment for instance.
-#[derive(Drop)]
+#[derive(Clone, Copy)]
 struct Call {
     kind: usize,
     op: usize,
@@ -96,7 +98,7 @@ fn calls(table: &[u8], s: Session, rows: &mut [u64])
     let mut t = s;
     let mut at = 0;
     while at < table.len() {
-        let end = bytes::scan::find(table, at, table.len(), b'\n');
+        let end = console::find(table, at, b'\n');
         let c = read_call(&table[at..end]);
         if c.kind == 0 {
             return;
@@ -161,7 +163,7 @@ fn scene(line: &[u8], table: &[u8]) {
 fn replay(table: &[u8]) {
     let mut at = 0;
     while at < table.len() {
-        let end = bytes::scan::find(table, at, table.len(), b'\n');
+        let end = console::find(table, at, b'\n');
         let c = read_call(&table[at..end]);
         if c.kind == 0 {
             scene(&table[at..end], &table[end..]);
@@ -170,9 +172,9 @@ fn replay(table: &[u8]) {
     }
 }
 
-fn main() {
+fn main(rt: HostRuntime) {
     let mut table = [0u8; 16384];
-    let input = console::read_all(&mut table);
+    let input = console::read_all(&mut rt.stdin(), &mut table);
     let n = input.count;
     if input.whole {
         replay(&table[..n]);

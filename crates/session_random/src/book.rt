@@ -5,13 +5,13 @@ use trial::drawn::{Drawn, NOWHERE, field, holds, only, start_of, with_start};
 use trial::picture;
 
 // The starts of 6 operations, as a checkpoint keeps them.
-#[derive(Drop)]
+#[derive(Clone, Copy)]
 pub struct Saved {
     pub starts: [u16; 6],
 }
 
 // The starts; how many checkpoints are open; and their copies.
-#[derive(Drop)]
+#[derive(Clone, Copy)]
 pub struct Book {
     pub starts: [u16; 6],
     pub open: usize,
@@ -19,7 +19,7 @@ pub struct Book {
 }
 
 // An answer: 0 done; 1 displaced, with the mask; 2 a new checkpoint, with its number; 3 a refusal, with its number and its detail.
-#[derive(Drop)]
+#[derive(Clone, Copy)]
 pub struct Answer {
     pub kind: usize,
     pub number: usize,

@@ -5,7 +5,7 @@ use trial::drawn::Drawn;
 use trial::random::{next, pick};
 
 // A call: 0 place, 1 force, 2 remove, 3 checkpoint, 4 release, 5 rollback. Its operation, or for a rollback the number of the checkpoint; its start; and the generator's state behind it.
-#[derive(Drop)]
+#[derive(Clone, Copy)]
 pub struct Call {
     pub kind: usize,
     pub op: usize,

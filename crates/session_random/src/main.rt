@@ -1,6 +1,8 @@
 // 100 random lists of some 200 calls: sessions over small random loops against a book of starts (in `book`), which takes nothing from the library. After opening and after each call
 // the answer, the starts, the number of open checkpoints and the rows are compared, and the numbers of free rows of the 24 slots with a count over the rows; at the end of a list the
 // session goes back to each open checkpoint. What it must print, the file stdout, was computed by another program, with a book of its own.
+#![tactic(auto)]
+
 mod book;
 mod calls;
 mod compare;

@@ -5,7 +5,7 @@ use std::num::wrapping_add_usize;
 
 // The generator's state, and the counts in the order of the line that prints them: 0 the lists; 1 the openings and calls, and 2 those that agree; and the calls by sort: 3 placed,
 // 4 forced with nothing displaced, 5 with one operation displaced, 6 with several, 7 removed, 8 a checkpoint, 9 released, 10 rolled back, 11 to 18 refused by 12 to 19, 19 anything else.
-#[derive(Drop)]
+#[derive(Clone, Copy)]
 pub struct Tally {
     pub seed: usize,
     pub counts: [usize; 20],

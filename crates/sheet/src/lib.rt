@@ -1,4 +1,6 @@
 // The release sheet (document 02, order 6): the files of a bundle scheduled one after the other, with the numbers of loop A's program, and what is added up over them.
+#![tactic(auto)]
+
 pub mod fraction;
 pub mod sums;
 

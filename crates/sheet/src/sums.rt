@@ -8,7 +8,7 @@ use lower_bounds::{larger, total_on};
 use search::{Searched, Solution};
 
 // The sums over the scheduled files: how many, how many at the larger bound, their intervals, and for slots 1 to 24 the durations on it, which are its covered cells. All cells of a slot are as many as the intervals come to.
-#[derive(Drop)]
+#[derive(Clone, Copy)]
 pub struct Sums {
     pub scheduled: usize,
     pub bound: usize,

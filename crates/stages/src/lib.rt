@@ -1,5 +1,7 @@
 // Stage, cycle and order of the operations of a schedule, and the stage count. The functions of the listing take any list and number: of an interval of 0, which
 // no schedule has, and of operations past the list's end they give what the definitions say.
+#![tactic(auto)]
+
 ghost use Rattle.std.specs.Prelude.{◌≡◌, ◌<◌};
 ghost use Rattle.model.specs.Loop.{size};
 ghost use Rattle.model.specs.File.{loop_of, Accepted};

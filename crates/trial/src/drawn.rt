@@ -4,7 +4,7 @@ ghost use Rattle.trial.specs.Drawn.{duration_of, field_of, latency_of, lag_of, s
 
 // n operations, up to 6, and m dependences, up to 6; the interval and the horizon that it is tried with; and the generator's state behind its draws. The duration of operation o on slot s + 1 is
 // at 3 o + s, 0 where it does not use the slot. A dependence is four bytes, as in a file, but its delay stands as 6 more than it is.
-#[derive(Drop)]
+#[derive(Clone, Copy)]
 pub struct Drawn {
     pub seed: usize,
     pub n: usize,

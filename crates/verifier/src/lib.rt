@@ -1,4 +1,6 @@
 // The verifier of a proposed list of starts (document 01: the judge).
+#![tactic(auto)]
+
 mod walk;
 
 ghost use Rattle.std.specs.Prelude.{◌≡◌};

@@ -1,5 +1,7 @@
 // The verdicts of a table, which is read from standard input (the file stdin says how a line of it reads), a line each; and those on 400 random lists against a picture of the
 // slots. What it must print of the table, the file stdout, was worked out by hand from document 01, and the last line by another program.
+#![tactic(auto)]
+
 mod random;
 
 use trial::drawn::{byte, least};
@@ -70,15 +72,15 @@ fn replay_line(line: &[u8]) {
 fn replay(table: &[u8]) {
     let mut at = 0;
     while at < table.len() {
-        let end = bytes::scan::find(table, at, table.len(), b'\n');
+        let end = console::find(table, at, b'\n');
         replay_line(&table[at..end]);
         at = end + 1;
     }
 }
 
-fn main() {
+fn main(rt: HostRuntime) {
     let mut table = [0u8; 16384];
-    let input = console::read_all(&mut table);
+    let input = console::read_all(&mut rt.stdin(), &mut table);
     let n = input.count;
     if input.whole {
         replay(&table[..n]);

@@ -61,7 +61,7 @@ pub fn read(line: &[u8], at: usize, list: &mut [i32; 1032]) -> List {
     let mut from = 0;
     let mut next = at;
     while next < line.len() {
-        let end = bytes::scan::find(line, next, line.len(), b' ');
+        let end = console::find(line, next, b' ');
         let b = line[next];
         if b == b'/' {
             return List {

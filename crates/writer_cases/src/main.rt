@@ -1,5 +1,7 @@
 // What the writer makes of the lists of a table, which is read from standard input (the file stdin says how a line of it reads), and of those of 400 random loops. What it must
 // print, the file stdout, was worked out from docs/FORMAT.md and the rules of document 02 by another program.
+#![tactic(auto)]
+
 mod lists;
 mod random;
 
@@ -107,16 +109,16 @@ fn replay_line(line: &[u8]) {
 fn replay(table: &[u8]) {
     let mut at = 0;
     while at < table.len() {
-        let end = bytes::scan::find(table, at, table.len(), b'\n');
+        let end = console::find(table, at, b'\n');
         replay_line(&table[at..end]);
         at = end + 1;
     }
 }
 
 // The table, then the random loops.
-fn main() {
+fn main(rt: HostRuntime) {
     let mut table = [0u8; 16384];
-    let input = console::read_all(&mut table);
+    let input = console::read_all(&mut rt.stdin(), &mut table);
     let n = input.count;
     if input.whole {
         replay(&table[..n]);
