@@ -27,7 +27,7 @@ pub struct Answer {
 }
 
 // The book after a call, and the answer.
-#[derive(Drop)]
+#[derive(Clone, Copy)]
 pub struct Noted {
     pub book: Book,
     pub answer: Answer,
