@@ -20,33 +20,33 @@ there s = get_or_within s.args.starts.now s.args.op 65535 0 (board_inside s.args
 near : (s : tie.Start) → get_or s.args.starts.now s.args.op 0 < 4096
 near s = omega (arith, there s, sane_near s.requires.0.sane s.args.op (λ e. omega (arith, s.requires.2)))
 
-mul-start : tie.Need-overflow-mul-start
-mul-start c = omega (arith, inside c.before.before)
+offset_bounds-starts-op : tie.Need-offset_bounds-starts-op
+offset_bounds-starts-op c = omega (arith, inside c.before.before)
 
-element-copy-out-start : tie.Need-element-copy-out-start
-element-copy-out-start c = inside c.before.before
+bounds-starts-op : tie.Need-bounds-starts-op
+bounds-starts-op c = inside c.before.before
 
-cast-start : tie.Need-overflow-cast-start
-cast-start c = omega (arith, near c.before.before.before)
+overflow_cast-start : tie.Need-overflow_cast-start
+overflow_cast-start c = omega (arith, near c.before.before.before)
 
-first-use-requires : tie.Need-first-use-requires
-first-use-requires c κs = let p = c.before.before.before.requires in (p.0.accepted, p.1)
+first_use-requires : tie.Need-first_use-requires
+first_use-requires c κs = let p = c.before.before.before.requires in (p.0.accepted, p.1)
 
 release-requires : tie.Need-release-requires
 release-requires c κs =
     let u = c.before in
     let s = u.before.before.before.before in
     let p = s.requires in
-    (p.0.accepted, p.1, lift_uses s.args.op (get_or s.args.starts.now s.args.op 0) p.0 p.1 (near s) (there s), u.first-use.ensures)
+    (p.0.accepted, p.1, lift_uses s.args.op (get_or s.args.starts.now s.args.op 0) p.0 p.1 (near s) (there s), u.first_use.ensures)
 
-mul-starts : tie.Need-overflow-mul-starts
-mul-starts c = omega (arith, inside c.before.before.before.before.before.before.before.before)
+offset_bounds-starts-op-2 : tie.Need-offset_bounds-starts-op-2
+offset_bounds-starts-op-2 c = omega (arith, inside c.before.before.before.before.before.before.before.before)
 
-element-write-starts : tie.Need-element-write-starts
-element-write-starts c = inside c.before.before.before.before.before.before.before.before
+bounds-starts-op-2 : tie.Need-bounds-starts-op-2
+bounds-starts-op-2 c = inside c.before.before.before.before.before.before.before.before
 
-same_length : tie.Need-same-length
-same_length c = search rules
+shape_of-rows : tie.Need-shape_of-rows
+shape_of-rows c = search rules
 
 returns : tie.Need-returns
 returns c =
@@ -60,12 +60,12 @@ pub lift_spec : {M : Type 1} → statement M
 lift_spec =
     tie.close
     (tie.spec
-    mul-start
-    element-copy-out-start
-    cast-start
-    first-use-requires
+    offset_bounds-starts-op
+    bounds-starts-op
+    overflow_cast-start
+    first_use-requires
     release-requires
-    mul-starts
-    element-write-starts
-    same_length
+    offset_bounds-starts-op-2
+    bounds-starts-op-2
+    shape_of-rows
     returns)

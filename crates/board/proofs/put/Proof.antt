@@ -19,27 +19,27 @@ inside s = omega (arith, few_operations s.args.file.now s.requires.board.accepte
 free : (s : tie.Start) → seats s.args.starts.now s.args.op ≡ none
 free s = seat_none (get_or s.args.starts.now s.args.op 65535) s.requires.blank
 
-first-use-requires : tie.Need-first-use-requires
-first-use-requires c κs = let p = c.before.before.requires in (p.board.accepted, p.inside)
+first_use-requires : tie.Need-first_use-requires
+first_use-requires c κs = let p = c.before.before.requires in (p.board.accepted, p.inside)
 
 reserve-requires : tie.Need-reserve-requires
 reserve-requires c κs =
     let u = c.before in
     let s = u.before.before.before in
     let p = s.requires in
-    (p.board.accepted, p.inside, put_uses s.args.op s.args.start p.board p.inside p.near (free s) p.fits, u.first-use.ensures)
+    (p.board.accepted, p.inside, put_uses s.args.op s.args.start p.board p.inside p.near (free s) p.fits, u.first_use.ensures)
 
-cast-starts : tie.Need-overflow-cast-starts
-cast-starts c = search rules
+overflow_cast-starts : tie.Need-overflow_cast-starts
+overflow_cast-starts c = search rules
 
-mul-starts : tie.Need-overflow-mul-starts
-mul-starts c = omega (arith, inside c.before.before.before.before.before.before.before)
+offset_bounds-starts-op : tie.Need-offset_bounds-starts-op
+offset_bounds-starts-op c = omega (arith, inside c.before.before.before.before.before.before.before)
 
-element-write-starts : tie.Need-element-write-starts
-element-write-starts c = inside c.before.before.before.before.before.before.before
+bounds-starts-op : tie.Need-bounds-starts-op
+bounds-starts-op c = inside c.before.before.before.before.before.before.before
 
-same_length : tie.Need-same-length
-same_length c = search rules
+shape_of-rows : tie.Need-shape_of-rows
+shape_of-rows c = search rules
 
 returns : tie.Need-returns
 returns c =
@@ -52,4 +52,4 @@ returns c =
 pub put_spec : {M : Type 1} → statement M
 put_spec =
     tie.close
-    (tie.spec first-use-requires reserve-requires cast-starts mul-starts element-write-starts same_length returns)
+    (tie.spec first_use-requires reserve-requires overflow_cast-starts offset_bounds-starts-op bounds-starts-op shape_of-rows returns)

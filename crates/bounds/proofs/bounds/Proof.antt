@@ -12,37 +12,37 @@ use Rattle.bounds.specs.Answer.{as_bounds}
 use Rattle.bounds.proofs.bounds.Statement.{statement}
 use Rattle.bounds.proofs.bounds.Tie as tie
 
-read-requires : tie.Need-read-requires
-read-requires c κs = search rules
+read-reading-requires : tie.Need-read-reading-requires
+read-reading-requires c κs = search rules
 
-enum_told : tie.Need-enum-told
-enum_told c = search rules
+enum_told-1 : tie.Need-enum_told-1
+enum_told-1 c = search rules
 
-enum-told-2 : tie.Need-enum-told-2
-enum-told-2 c = search rules
+enum_told-in_default : tie.Need-enum_told-in_default
+enum_told-in_default c = search rules
 
-passed-on-requires : tie.Need-passed-on-requires
-passed-on-requires c κs = search rules
+passed_on-requires : tie.Need-passed_on-requires
+passed_on-requires c κs = search rules
 
-returns : tie.Need-returns
-returns c =
-    let e = c.before.enum-told2.given.1 in
+returns-in_default : tie.Need-returns-in_default
+returns-in_default c =
+    let e = c.before.enum_told-in_default-1.given.1 in
     let r = c.before.before.before in
-    by_file _ (read_refused r.before.before.args.file.now _ _ (sym (ap reading_of e) ∙ r.read.ensures)) (ap bounds_of (c.passed_on.ensures ∙ ap as_bounds e))
+    by_file _ (read_refused r.before.before.args.file.now _ _ (sym (ap reading_of e) ∙ r.read-reading.ensures)) (ap bounds_of (c.passed_on.ensures ∙ ap as_bounds e))
 
 -- ---- once the file is accepted
 
-abbrev file : tie.After-enum-told → List ℕ
+abbrev file : tie.In-Accepted → List ℕ
 file c = c.before.before.before.before.args.file.now
 
-accepted : (c : tie.After-enum-told) → Accepted (file c)
-accepted c = (read_accepted (file c) _ _ _ (sym (ap reading_of c.enum_told.given.1) ∙ c.before.before.read.ensures)).file
+accepted : (c : tie.In-Accepted) → Accepted (file c)
+accepted c = (read_accepted (file c) _ _ _ (sym (ap reading_of c.enum_told-1.given.1) ∙ c.before.before.read-reading.ensures)).file
 
 lower-requires : tie.Need-lower-requires
 lower-requires c κs = accepted c
 
-returns-2 : tie.Need-returns-2
-returns-2 c = by_loop (accepted c.before) c.lower.ensures
+returns : tie.Need-returns
+returns c = by_loop (accepted c.before) c.lower.ensures
 
 pub bounds_spec : {M : Type 1} → statement M
-bounds_spec = tie.close (tie.spec read-requires enum_told enum-told-2 passed-on-requires returns lower-requires returns-2)
+bounds_spec = tie.close (tie.spec read-reading-requires enum_told-1 enum_told-in_default passed_on-requires returns-in_default lower-requires returns)

@@ -5,17 +5,17 @@ use Rattle.bounds.specs.Answer.{as_bounds}
 use Rattle.bounds.proofs.passed_on.Statement.{statement}
 use Rattle.bounds.proofs.passed_on.Tie as tie
 
-enum_told : tie.Need-enum-told
-enum_told c = search rules
+enum_told-1 : tie.Need-enum_told-1
+enum_told-1 c = search rules
 
-enum-known-r : tie.Need-enum-known-r
-enum-known-r c = search rules
+enum_known-r : tie.Need-enum_known-r
+enum_known-r c = search rules
 
-returns : tie.Need-returns
-returns c = search rules
+returns-in-Accepted : tie.Need-returns-in-Accepted
+returns-in-Accepted c = search rules
 
-returns-2 : tie.Need-returns-2
-returns-2 c = sym (ap as_bounds c.before.r.given.1)
+returns-in-Refused : tie.Need-returns-in-Refused
+returns-in-Refused c = sym (ap as_bounds c.before.r-1.given.1)
 
 pub passed_on_spec : {M : Type 1} → statement M
-passed_on_spec = tie.close (tie.spec enum_told enum-known-r returns returns-2)
+passed_on_spec = tie.close (tie.spec enum_told-1 enum_known-r returns-in-Accepted returns-in-Refused)

@@ -11,20 +11,20 @@ use Rattle.bundle.proofs.after.Tie as tie
 count-requires : tie.Need-count-requires
 count-requires c κs = search rules
 
-add-result : tie.Need-overflow-add-result
-add-result c = search rules
+overflow_add-result : tie.Need-overflow_add-result
+overflow_add-result c = search rules
 
-returns : tie.Need-returns
-returns c =
+returns-then-i-count : tie.Need-returns-then-i-count
+returns-then-i-count c =
     let a = c.before.before.before.args in
     let h : a.i < length (files a.bundle.now) = omega arith in
     rw (lt-ltb _ _ h)
 
-returns-2 : tie.Need-returns-2
-returns-2 c =
+returns-else-i-count : tie.Need-returns-else-i-count
+returns-else-i-count c =
     let a = c.before.before.before.args in
     let h : length (files a.bundle.now) ≤ a.i = omega arith in
     rw (le-ltb _ _ h)
 
 pub after_spec : {M : Type 1} → statement M
-after_spec = tie.close (tie.spec count-requires add-result returns returns-2)
+after_spec = tie.close (tie.spec count-requires overflow_add-result returns-then-i-count returns-else-i-count)

@@ -13,22 +13,22 @@ use Rattle.bundle.proofs.count.Tie as tie
 read-requires : tie.Need-read-requires
 read-requires c κs = search rules
 
-enum-known-n : tie.Need-enum-known-n
-enum-known-n c = search rules
+enum_known-n : tie.Need-enum_known-n
+enum_known-n c = search rules
 
-enum_told : tie.Need-enum-told
-enum_told c = search rules
+enum_told-1 : tie.Need-enum_told-1
+enum_told-1 c = search rules
 
-returns : tie.Need-returns
-returns c =
+returns-in-Files : tie.Need-returns-in-Files
+returns-in-Files c =
     let b = c.before.before.before.before.before.args.bundle.now in
-    let e : c.before.n.given.0.0 ≡ length (files b) = ap (λ (x : Bundled). size_of (bundled_of x)) (sym c.before.n.given.1) ∙ ap size_of c.before.before.before.read.ensures ∙ size_files b in
+    let e : c.before.n-1.given.0.0 ≡ length (files b) = ap (λ (x : Bundled). size_of (bundled_of x)) (sym c.before.n-1.given.1) ∙ ap size_of c.before.before.before.read.ensures ∙ size_files b in
     (e, omega (arith, few_files b))
 
-returns-2 : tie.Need-returns-2
-returns-2 c =
+returns-in-Refused : tie.Need-returns-in-Refused
+returns-in-Refused c =
     let b = c.before.before.before.before.args.bundle.now in
-    (ap (λ (x : Bundled). size_of (bundled_of x)) (sym c.enum_told.given.1) ∙ ap size_of c.before.before.read.ensures ∙ size_files b, omega arith)
+    (ap (λ (x : Bundled). size_of (bundled_of x)) (sym c.enum_told-1.given.1) ∙ ap size_of c.before.before.read.ensures ∙ size_files b, omega arith)
 
 pub count_spec : {M : Type 1} → statement M
-count_spec = tie.close (tie.spec read-requires enum-known-n enum_told returns returns-2)
+count_spec = tie.close (tie.spec read-requires enum_known-n enum_told-1 returns-in-Files returns-in-Refused)

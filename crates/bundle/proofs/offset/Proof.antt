@@ -13,28 +13,28 @@ use Rattle.bundle.proofs.offset.Tie as tie
 count-requires : tie.Need-count-requires
 count-requires c κs = search rules
 
-mul-word : tie.Need-overflow-mul-word
-mul-word c = omega arith
+overflow_mul-i : tie.Need-overflow_mul-i
+overflow_mul-i c = omega arith
 
-add-word : tie.Need-overflow-add-word
-add-word c = omega arith
+overflow_add-i : tie.Need-overflow_add-i
+overflow_add-i c = omega arith
 
 word-requires : tie.Need-word-requires
 word-requires c κs =
     let a = c.before.before.before.args in
     omega (arith, entry_at a.bundle.now a.i (omega arith))
 
-returns : tie.Need-returns
-returns c =
+returns-then-i-count : tie.Need-returns-then-i-count
+returns-then-i-count c =
     let a = c.before.before.before.before.args in
     let h : a.i < length (files a.bundle.now) = omega arith in
     rw (lt-ltb _ _ h) (c.word.ensures.0 ∙ (entry_at a.bundle.now a.i h).placed)
 
-returns-2 : tie.Need-returns-2
-returns-2 c =
+returns-else-i-count : tie.Need-returns-else-i-count
+returns-else-i-count c =
     let a = c.before.before.before.args in
     let h : length (files a.bundle.now) ≤ a.i = omega arith in
     rw (le-ltb _ _ h)
 
 pub offset_spec : {M : Type 1} → statement M
-offset_spec = tie.close (tie.spec count-requires mul-word add-word word-requires returns returns-2)
+offset_spec = tie.close (tie.spec count-requires overflow_mul-i overflow_add-i word-requires returns-then-i-count returns-else-i-count)

@@ -3,17 +3,17 @@ use native.Mathlib.Omega.{arith}
 use Rattle.free_rows.proofs.moved.Statement.{statement}
 use Rattle.free_rows.proofs.moved.Tie as tie
 
-sub-result : tie.Need-overflow-sub-result
-sub-result c = rw c.if1.true at c.before.requires.0
+overflow_sub-result : tie.Need-overflow_sub-result
+overflow_sub-result c = rw c.if-comes.true at c.before.requires.0
 
-add-result : tie.Need-overflow-add-result
-add-result c = omega arith
+overflow_add-result : tie.Need-overflow_add-result
+overflow_add-result c = omega arith
 
-returns : tie.Need-returns
-returns c = rw c.if1.true (omega (arith, sub-result c))
+returns-then-comes : tie.Need-returns-then-comes
+returns-then-comes c = rw c.if-comes.true (omega (arith, overflow_sub-result c))
 
-returns-2 : tie.Need-returns-2
-returns-2 c = rw c.if1.false (omega arith)
+returns-else-comes : tie.Need-returns-else-comes
+returns-else-comes c = rw c.if-comes.false (omega arith)
 
 pub moved_spec : {M : Type 1} → statement M
-moved_spec = tie.close (tie.spec sub-result add-result returns returns-2)
+moved_spec = tie.close (tie.spec overflow_sub-result overflow_add-result returns-then-comes returns-else-comes)

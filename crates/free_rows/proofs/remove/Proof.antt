@@ -4,46 +4,46 @@ use borrow.Author.Rules.{rules}
 use lib.Seq.{length-take-le}
 use Rattle.board.specs.Moves.{reply_of}
 use Rattle.free_rows.proofs.Calls.{other_done, else_free, removed_room, removed_free}
-use Rattle.free_rows.proofs.remove.Statement.{statement}
-use Rattle.free_rows.proofs.remove.Tie as tie
+use Rattle.free_rows.proofs.remove-removed.Statement.{statement}
+use Rattle.free_rows.proofs.remove-removed.Tie as tie
 
-remove-requires : tie.Need-remove-requires
-remove-requires c κs = search rules
+remove-removed-requires : tie.Need-remove-removed-requires
+remove-removed-requires c κs = search rules
 
-enum_told : tie.Need-enum-told
-enum_told c = search rules
+enum_told-1 : tie.Need-enum_told-1
+enum_told-1 c = search rules
 
-same_length : tie.Need-same-length
-same_length c = search rules
+shape_of-rows-in_default : tie.Need-shape_of-rows-in_default
+shape_of-rows-in_default c = search rules
 
-returns : tie.Need-returns
-returns c =
+returns-in_default : tie.Need-returns-in_default
+returns-in_default c =
     let m = c.before.before.before in
     let s = m.before.before.before.before.before in
-    (m.remove.ensures, else_free (m.remove.ensures 4096 s.requires.1) s.args.free.now s.requires.2 (other_done m.remove.result c.match.keys2))
+    (m.remove-removed.ensures, else_free (m.remove-removed.ensures 4096 s.requires.1) s.args.free.now s.requires.2 (other_done m.remove-removed.result c.match.keys2))
 
-slice-aggregate-count : tie.Need-slice-aggregate-count
-slice-aggregate-count c = let s = c.before.before.before.before.before.before.before.before.before.before in sym (length-take-le s.args.length- s.args.store.now s.requires.0)
+slice_bounds-count-end : tie.Need-slice_bounds-count-end
+slice_bounds-count-end c = let s = c.before.before.before.before.before.before.before.before.before.before in sym (length-take-le s.args.length- s.args.store.now s.requires.0)
 
 count-requires : tie.Need-count-requires
 count-requires c κs =
     let e = c.before.before in
     let m = e.before.before.before.before in
     let s = m.before.before.before.before.before in
-    let d = m.remove.ensures 4096 s.requires.1 in
-    removed_room s.requires.1 d (ap reply_of e.enum_told.given.1) s.args.free.now s.requires.2
+    let d = m.remove-removed.ensures 4096 s.requires.1 in
+    removed_room s.requires.1 d (ap reply_of e.enum_told-1.given.1) s.args.free.now s.requires.2
 
-same-length-2 : tie.Need-same-length-2
-same-length-2 c = search rules
+shape_of-rows : tie.Need-shape_of-rows
+shape_of-rows c = search rules
 
-returns-2 : tie.Need-returns-2
-returns-2 c =
+returns : tie.Need-returns
+returns c =
     let e = c.before.before.before in
     let m = e.before.before.before.before in
     let s = m.before.before.before.before.before in (
-      m.remove.ensures,
-      removed_free s.requires.1 (m.remove.ensures 4096 s.requires.1) (ap reply_of e.enum_told.given.1) s.args.free.now s.requires.2 _ c.count.ensures,
+      m.remove-removed.ensures,
+      removed_free s.requires.1 (m.remove-removed.ensures 4096 s.requires.1) (ap reply_of e.enum_told-1.given.1) s.args.free.now s.requires.2 _ c.count.ensures,
     )
 
 pub remove_spec : {M : Type 1} → statement M
-remove_spec = tie.close (tie.spec remove-requires enum_told same_length returns slice-aggregate-count count-requires same-length-2 returns-2)
+remove_spec = tie.close (tie.spec remove-removed-requires enum_told-1 shape_of-rows-in_default returns-in_default slice_bounds-count-end count-requires shape_of-rows returns)

@@ -7,68 +7,68 @@ use Rattle.iterative.proofs.Schedules.{untouched, untouched_again, ready_at}
 use Rattle.iterative.proofs.place_all.Statement.{statement}
 use Rattle.iterative.proofs.place_all.Tie as tie
 
-abbrev invariant-loop : tie.invariant-loop
-invariant-loop file n least cap horizon starts₀ rows₀ last tries₀ ii₀ starts rows tries ii = (least ≤ ii) × Untouched starts₀ rows₀ starts rows
+abbrev invariant-loop-ii : tie.invariant-loop-ii
+invariant-loop-ii file n least cap horizon starts₀ rows₀ last tries₀ ii₀ starts rows tries ii = (least ≤ ii) × Untouched starts₀ rows₀ starts rows
 
-abbrev decreases-loop : tie.decreases-loop
-decreases-loop file n least cap horizon starts₀ rows₀ last tries₀ ii₀ starts rows tries ii = suc last - ii
+abbrev decreases-loop-ii : tie.decreases-loop-ii
+decreases-loop-ii file n least cap horizon starts₀ rows₀ last tries₀ ii₀ starts rows tries ii = suc last - ii
 
-last-of-requires : tie.Need-last-of-requires invariant-loop decreases-loop
-last-of-requires c κs = c.before.before.requires.far
+last_of-last-requires : tie.Need-last_of-last-requires invariant-loop-ii decreases-loop-ii
+last_of-last-requires c κs = c.before.before.requires.far
 
-loop-holds : tie.Need-loop-init invariant-loop decreases-loop
-loop-holds c = (omega arith, untouched _ _)
+loop-ii-init : tie.Need-loop-ii-init invariant-loop-ii decreases-loop-ii
+loop-ii-init c = (omega arith, untouched _ _)
 
-attempt-all-requires : tie.Need-attempt-all-requires invariant-loop decreases-loop
-attempt-all-requires c κs =
+attempt_all-requires : tie.Need-attempt_all-requires invariant-loop-ii decreases-loop-ii
+attempt_all-requires c κs =
     let a = c.before.before.before in
-    ready_at a.loop.ii a.before.before.before.before.requires a.loop.invariant.0 (omega (arith, a.before.last_of.ensures)) a.loop.invariant.1
+    ready_at a.loop-ii.ii a.before.before.before.before.requires a.loop-ii.invariant.0 (omega (arith, a.before.last_of-last.ensures)) a.loop-ii.invariant.1
 
 -- after the attempts at an interval
-left_by : (c : tie.After-attempt-all invariant-loop decreases-loop) → let s = c.before.before.before.before.before.before.before.before.args in
-    Untouched s.starts.now s.rows.now c.attempt-all.new.1.1.1.1.1.0 c.attempt-all.new.1.1.1.1.1.1.0
-left_by c = untouched_again c.before.before.before.before.loop.invariant.1 c.attempt-all.ensures.untouched
+left_by : (c : tie.After-attempt_all invariant-loop-ii decreases-loop-ii) → let s = c.before.before.before.before.before.before.before.before.args in
+    Untouched s.starts.now s.rows-1.now c.attempt_all.new.1.1.1.1.1.0 c.attempt_all.new.1.1.1.1.1.1.0
+left_by c = untouched_again c.before.before.before.before.loop-ii.invariant.1 c.attempt_all.ensures.untouched
 
-same_length : tie.Need-same-length invariant-loop decreases-loop
-same_length c = (left_by c.before.before.before).rows_length
+shape_of-rows-then-attempt_all : tie.Need-shape_of-rows-then-attempt_all invariant-loop-ii decreases-loop-ii
+shape_of-rows-then-attempt_all c = (left_by c.before.before.before).rows_length
 
-returns : tie.Need-returns invariant-loop decreases-loop
-returns c =
+returns-then-attempt_all : tie.Need-returns-then-attempt_all invariant-loop-ii decreases-loop-ii
+returns-then-attempt_all c =
     let w = c.before.before.before in
     let a = w.before.before.before.before in
     record {
-      found = λ d. record { low = omega (arith, a.loop.invariant.0); high = omega (arith, a.before.last_of.ensures, w.before.before.before.loop-test.true); schedule = w.attempt-all.ensures.found c.if1.true };
+      found = λ d. record { low = omega (arith, a.loop-ii.invariant.0); high = omega (arith, a.before.last_of-last.ensures, w.before.before.before.loop-ii-test.true); schedule = w.attempt_all.ensures.found c.if-attempt_all.true };
       untouched = left_by w;
     }
 
-add-ii : tie.Need-overflow-add-ii invariant-loop decreases-loop
-add-ii c = let a = c.before.before.before.before.before.before.before in omega (arith, a.before.last_of.ensures, a.before.before.before.before.requires.capped)
+overflow_add-ii : tie.Need-overflow_add-ii invariant-loop-ii decreases-loop-ii
+overflow_add-ii c = let a = c.before.before.before.before.before.before.before in omega (arith, a.before.last_of-last.ensures, a.before.before.before.before.requires.capped)
 
-loop-less : tie.Need-loop-smaller invariant-loop decreases-loop
-loop-less c = omega arith
+loop-ii-smaller : tie.Need-loop-ii-smaller invariant-loop-ii decreases-loop-ii
+loop-ii-smaller c = omega arith
 
-loop-again : tie.Need-loop-preserved invariant-loop decreases-loop
-loop-again c = (omega arith, left_by c.before.before.before)
+loop-ii-preserved : tie.Need-loop-ii-preserved invariant-loop-ii decreases-loop-ii
+loop-ii-preserved c = (omega arith, left_by c.before.before.before)
 
-same-length-2 : tie.Need-same-length-2 invariant-loop decreases-loop
-same-length-2 c = c.before.loop.invariant.1.rows_length
+shape_of-rows : tie.Need-shape_of-rows invariant-loop-ii decreases-loop-ii
+shape_of-rows c = c.before.loop-ii.invariant.1.rows_length
 
-returns-2 : tie.Need-returns-2 invariant-loop decreases-loop
-returns-2 c = record { found = λ d. absurd (d refl); untouched = c.before.loop.invariant.1 }
+returns : tie.Need-returns invariant-loop-ii decreases-loop-ii
+returns c = record { found = λ d. absurd (d refl); untouched = c.before.loop-ii.invariant.1 }
 
 pub place_all_spec : {M : Type 1} → statement M
 place_all_spec =
     tie.close
     (tie.spec
-    invariant-loop
-    decreases-loop
-    last-of-requires
-    loop-holds
-    attempt-all-requires
-    same_length
-    returns
-    add-ii
-    loop-less
-    loop-again
-    same-length-2
-    returns-2)
+    invariant-loop-ii
+    decreases-loop-ii
+    last_of-last-requires
+    loop-ii-init
+    attempt_all-requires
+    shape_of-rows-then-attempt_all
+    returns-then-attempt_all
+    overflow_add-ii
+    loop-ii-smaller
+    loop-ii-preserved
+    shape_of-rows
+    returns)

@@ -5,51 +5,51 @@ use lib.ListN.{length}
 use Rattle.listing.proofs.operations.Statement.{statement}
 use Rattle.listing.proofs.operations.Tie as tie
 
-abbrev invariant-loop : tie.invariant-loop
-invariant-loop interval starts op₀ op = Unit
+abbrev invariant-loop-op : tie.invariant-loop-op
+invariant-loop-op interval starts op₀ op = Unit
 
-abbrev decreases-loop : tie.decreases-loop
-decreases-loop interval starts op₀ op = length starts - op
+abbrev decreases-loop-op : tie.decreases-loop-op
+decreases-loop-op interval starts op₀ op = length starts - op
 
-loop-holds : tie.Need-loop-init invariant-loop decreases-loop
-loop-holds c = tt
+loop-op-init : tie.Need-loop-op-init invariant-loop-op decreases-loop-op
+loop-op-init c = tt
 
-mul_wide : tie.Need-overflow-mul-wide invariant-loop decreases-loop
-mul_wide c = omega arith
+offset_bounds-starts-op : tie.Need-offset_bounds-starts-op invariant-loop-op decreases-loop-op
+offset_bounds-starts-op c = omega arith
 
-shared-slice-read-wide : tie.Need-shared-slice-read-wide invariant-loop decreases-loop
-shared-slice-read-wide c = omega arith
+bounds-starts-op : tie.Need-bounds-starts-op invariant-loop-op decreases-loop-op
+bounds-starts-op c = omega arith
 
-wide-requires : tie.Need-wide-requires invariant-loop decreases-loop
+wide-requires : tie.Need-wide-requires invariant-loop-op decreases-loop-op
 wide-requires c κs = tt
 
-operation-requires : tie.Need-operation-requires invariant-loop decreases-loop
+operation-requires : tie.Need-operation-requires invariant-loop-op decreases-loop-op
 operation-requires c κs = tt
 
-add-op : tie.Need-overflow-add-op invariant-loop decreases-loop
-add-op c = omega arith
+overflow_add-op : tie.Need-overflow_add-op invariant-loop-op decreases-loop-op
+overflow_add-op c = omega arith
 
-loop-less : tie.Need-loop-smaller invariant-loop decreases-loop
-loop-less c = omega arith
+loop-op-smaller : tie.Need-loop-op-smaller invariant-loop-op decreases-loop-op
+loop-op-smaller c = omega arith
 
-loop-again : tie.Need-loop-preserved invariant-loop decreases-loop
-loop-again c = tt
+loop-op-preserved : tie.Need-loop-op-preserved invariant-loop-op decreases-loop-op
+loop-op-preserved c = tt
 
-returns : tie.Need-returns invariant-loop decreases-loop
+returns : tie.Need-returns invariant-loop-op decreases-loop-op
 returns c = tt
 
 pub operations_spec : {M : Type 1} → statement M
 operations_spec =
     tie.close
     (tie.spec
-    invariant-loop
-    decreases-loop
-    loop-holds
-    mul_wide
-    shared-slice-read-wide
+    invariant-loop-op
+    decreases-loop-op
+    loop-op-init
+    offset_bounds-starts-op
+    bounds-starts-op
     wide-requires
     operation-requires
-    add-op
-    loop-less
-    loop-again
+    overflow_add-op
+    loop-op-smaller
+    loop-op-preserved
     returns)

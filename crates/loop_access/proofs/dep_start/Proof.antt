@@ -10,20 +10,20 @@ known c = dep_read c.args.file.now c.args.e c.requires
 word-requires : tie.Need-word-requires
 word-requires c κs = omega (arith, known c.before)
 
-add-result : tie.Need-overflow-add-result
-add-result c = omega arith
+overflow_add-result : tie.Need-overflow_add-result
+overflow_add-result c = omega arith
 
 word-requires-2 : tie.Need-word-requires-2
 word-requires-2 c κs = omega (arith, known c.before.before)
 
-add-result-2 : tie.Need-overflow-add-result-2
-add-result-2 c = omega arith
+overflow_add-result-2 : tie.Need-overflow_add-result-2
+overflow_add-result-2 c = omega arith
 
-mul-result : tie.Need-overflow-mul-result
-mul-result c = omega (arith, known c.before.before.before)
+overflow_mul-result : tie.Need-overflow_mul-result
+overflow_mul-result c = omega (arith, known c.before.before.before)
 
-add-result-3 : tie.Need-overflow-add-result-3
-add-result-3 c = omega (arith, known c.before.before.before)
+overflow_add-result-3 : tie.Need-overflow_add-result-3
+overflow_add-result-3 c = omega (arith, known c.before.before.before)
 
 returns : tie.Need-returns
 returns c = omega (arith, known c.before.before.before)
@@ -33,9 +33,9 @@ dep_start_spec =
     tie.close
     (tie.spec
     word-requires
-    add-result
+    overflow_add-result
     word-requires-2
-    add-result-2
-    mul-result
-    add-result-3
+    overflow_add-result-2
+    overflow_mul-result
+    overflow_add-result-3
     returns)

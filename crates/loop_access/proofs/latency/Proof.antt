@@ -7,14 +7,14 @@ use Rattle.loop_access.proofs.latency.Tie as tie
 known : (c : tie.Start) → OpRead c.args.file.now c.args.op
 known c = op_read c.args.file.now c.args.op c.requires
 
-mul_wide : tie.Need-overflow-mul-wide
-mul_wide c = omega (arith, known c.before)
+overflow_mul-op : tie.Need-overflow_mul-op
+overflow_mul-op c = omega (arith, known c.before)
 
-add_wide : tie.Need-overflow-add-wide
-add_wide c = omega (arith, known c.before)
+overflow_add-op : tie.Need-overflow_add-op
+overflow_add-op c = omega (arith, known c.before)
 
-shared-slice-read-wide : tie.Need-shared-slice-read-wide
-shared-slice-read-wide c = omega (arith, known c.before.before)
+bounds-file-op : tie.Need-bounds-file-op
+bounds-file-op c = omega (arith, known c.before.before)
 
 wide-requires : tie.Need-wide-requires
 wide-requires c κs = tt
@@ -23,4 +23,4 @@ returns : tie.Need-returns
 returns c = rw (known c.before.before.before).is c.wide.ensures.0
 
 pub latency_spec : {M : Type 1} → statement M
-latency_spec = tie.close (tie.spec mul_wide add_wide shared-slice-read-wide wide-requires returns)
+latency_spec = tie.close (tie.spec overflow_mul-op overflow_add-op bounds-file-op wide-requires returns)

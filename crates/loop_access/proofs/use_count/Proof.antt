@@ -7,17 +7,17 @@ use Rattle.loop_access.proofs.use_count.Tie as tie
 known : (c : tie.Start) → OpRead c.args.file.now c.args.op
 known c = op_read c.args.file.now c.args.op c.requires
 
-mul_wide : tie.Need-overflow-mul-wide
-mul_wide c = omega (arith, known c.before)
+overflow_mul-op : tie.Need-overflow_mul-op
+overflow_mul-op c = omega (arith, known c.before)
 
-add_wide : tie.Need-overflow-add-wide
-add_wide c = omega (arith, known c.before)
+overflow_add-op : tie.Need-overflow_add-op
+overflow_add-op c = omega (arith, known c.before)
 
-add-wide-2 : tie.Need-overflow-add-wide-2
-add-wide-2 c = omega (arith, known c.before)
+overflow_add-op-2 : tie.Need-overflow_add-op-2
+overflow_add-op-2 c = omega (arith, known c.before)
 
-shared-slice-read-wide : tie.Need-shared-slice-read-wide
-shared-slice-read-wide c = omega (arith, known c.before.before)
+bounds-file-op : tie.Need-bounds-file-op
+bounds-file-op c = omega (arith, known c.before.before)
 
 wide-requires : tie.Need-wide-requires
 wide-requires c κs = tt
@@ -29,4 +29,4 @@ returns c =
 
 pub use_count_spec : {M : Type 1} → statement M
 use_count_spec =
-    tie.close (tie.spec mul_wide add_wide add-wide-2 shared-slice-read-wide wide-requires returns)
+    tie.close (tie.spec overflow_mul-op overflow_add-op overflow_add-op-2 bounds-file-op wide-requires returns)

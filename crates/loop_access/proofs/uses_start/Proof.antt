@@ -7,11 +7,11 @@ use Rattle.loop_access.proofs.uses_start.Tie as tie
 word-requires : tie.Need-word-requires
 word-requires c κs = omega (arith, layout c.before.args.file.now c.before.requires)
 
-add-result : tie.Need-overflow-add-result
-add-result c = omega arith
+overflow_add-result : tie.Need-overflow_add-result
+overflow_add-result c = omega arith
 
 returns : tie.Need-returns
 returns c = omega arith
 
 pub uses_start_spec : {M : Type 1} → statement M
-uses_start_spec = tie.close (tie.spec word-requires add-result returns)
+uses_start_spec = tie.close (tie.spec word-requires overflow_add-result returns)

@@ -8,70 +8,70 @@ use Rattle.loop_file.proofs.Sections.{none_of, part_of, Spans, spans}
 use Rattle.loop_file.proofs.oper_body.Statement.{statement}
 use Rattle.loop_file.proofs.oper_body.Tie as tie
 
-read-requires : tie.Need-read-requires
-read-requires c κs = omega arith
+read-r-requires : tie.Need-read-r-requires
+read-r-requires c κs = omega arith
 
-enum-known-r : tie.Need-enum-known-r
-enum-known-r c = omega arith
+enum_known-r : tie.Need-enum_known-r
+enum_known-r c = omega arith
 
-enum_told : tie.Need-enum-told
-enum_told c = omega arith
+enum_told-1 : tie.Need-enum_told-1
+enum_told-1 c = omega arith
 
-sub-result : tie.Need-overflow-sub-result
-sub-result c = omega arith
+slice_bounds-result-count : tie.Need-slice_bounds-result-count
+slice_bounds-result-count c = omega arith
 
-part-result-start : tie.Need-slice-bounds-result-start
-part-result-start c = omega arith
+slice_bounds-result-start : tie.Need-slice_bounds-result-start
+slice_bounds-result-start c = omega arith
 
-part-result-end : tie.Need-slice-bounds-result-end
-part-result-end c = omega arith
+slice_bounds-result-end : tie.Need-slice_bounds-result-end
+slice_bounds-result-end c = omega arith
 
-returns : tie.Need-returns
-returns c = sym (none_of c.before.before.before.before.before.args.file.now oper oper_at c.before.enum_told.given.1 c.before.before.before.read.ensures)
+returns-in_default : tie.Need-returns-in_default
+returns-in_default c = sym (none_of c.before.before.before.before.before.args.file.now oper oper_at c.before.enum_told-1.given.1 c.before.before.before.read-r.ensures)
 
 -- where the file is accepted: the file, and its lengths
-abbrev file : tie.After-known-told → List ℕ
+abbrev file : tie.In-Accepted → List ℕ
 file c = c.before.before.before.before.before.args.file.now
 
-spanned : (c : tie.After-known-told) → Spans (file c) c.before.r.given.0.0 c.before.r.given.0.1.0 c.before.r.given.0.1.1.0
-spanned c = spans (file c) c.before.r.given.1 c.before.before.before.read.ensures
+spanned : (c : tie.In-Accepted) → Spans (file c) c.before.r-1.given.0.0 c.before.r-1.given.0.1.0 c.before.r-1.given.0.1.1.0
+spanned c = spans (file c) c.before.r-1.given.1 c.before.before.before.read-r.ensures
 
-mul-end : tie.Need-overflow-mul-end
-mul-end c = omega (arith, spanned c)
+overflow_mul-end : tie.Need-overflow_mul-end
+overflow_mul-end c = omega (arith, spanned c)
 
-add-end : tie.Need-overflow-add-end
-add-end c = omega (arith, spanned c)
+overflow_add-end : tie.Need-overflow_add-end
+overflow_add-end c = omega (arith, spanned c)
 
-sub-result-2 : tie.Need-overflow-sub-result-2
-sub-result-2 c = omega arith
+slice_bounds-result-count-2 : tie.Need-slice_bounds-result-count-2
+slice_bounds-result-count-2 c = omega arith
 
-part-result-start-2 : tie.Need-slice-bounds-result-start-2
-part-result-start-2 c = omega arith
+slice_bounds-result-start-2 : tie.Need-slice_bounds-result-start-2
+slice_bounds-result-start-2 c = omega arith
 
-part-result-end-2 : tie.Need-slice-bounds-result-end-2
-part-result-end-2 c = omega (arith, spanned c)
+slice_bounds-result-end-2 : tie.Need-slice_bounds-result-end-2
+slice_bounds-result-end-2 c = omega (arith, spanned c)
 
-returns-2 : tie.Need-returns-2
-returns-2 c =
+returns : tie.Need-returns
+returns c =
     let b = c.before in
     let first : ℕ = 26 in
-    let end : ℕ = 26 + 2 * b.before.r.given.0.0 in
+    let end : ℕ = 26 + 2 * b.before.r-1.given.0.0 in
     part_of (file b) oper oper_at first end (spanned b).file (refl) (omega (arith, spanned b))
 
 pub oper_body_spec : {M : Type 1} → statement M
 oper_body_spec =
     tie.close
     (tie.spec
-    read-requires
-    enum-known-r
-    enum_told
-    sub-result
-    part-result-start
-    part-result-end
-    returns
-    mul-end
-    add-end
-    sub-result-2
-    part-result-start-2
-    part-result-end-2
-    returns-2)
+    read-r-requires
+    enum_known-r
+    enum_told-1
+    slice_bounds-result-count
+    slice_bounds-result-start
+    slice_bounds-result-end
+    returns-in_default
+    overflow_mul-end
+    overflow_add-end
+    slice_bounds-result-count-2
+    slice_bounds-result-start-2
+    slice_bounds-result-end-2
+    returns)

@@ -5,17 +5,17 @@ use Rattle.loop_file.specs.Read.{as_reading}
 use Rattle.loop_file.proofs.passed_on.Statement.{statement}
 use Rattle.loop_file.proofs.passed_on.Tie as tie
 
-enum_told : tie.Need-enum-told
-enum_told c = search rules
+enum_told-1 : tie.Need-enum_told-1
+enum_told-1 c = search rules
 
-enum-known-p : tie.Need-enum-known-p
-enum-known-p c = search rules
+enum_known-p : tie.Need-enum_known-p
+enum_known-p c = search rules
 
-returns : tie.Need-returns
-returns c = search rules
+returns-in-Fine : tie.Need-returns-in-Fine
+returns-in-Fine c = search rules
 
-returns-2 : tie.Need-returns-2
-returns-2 c = sym (ap as_reading c.before.p.given.1)
+returns-in-Refused : tie.Need-returns-in-Refused
+returns-in-Refused c = sym (ap as_reading c.before.p-1.given.1)
 
 pub passed_on_spec : {M : Type 1} → statement M
-passed_on_spec = tie.close (tie.spec enum_told enum-known-p returns returns-2)
+passed_on_spec = tie.close (tie.spec enum_told-1 enum_known-p returns-in-Fine returns-in-Refused)

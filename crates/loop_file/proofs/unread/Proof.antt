@@ -5,17 +5,17 @@ use Rattle.loop_file.specs.Read.{as_unread}
 use Rattle.loop_file.proofs.unread.Statement.{statement}
 use Rattle.loop_file.proofs.unread.Tie as tie
 
-enum_told : tie.Need-enum-told
-enum_told c = omega arith
+enum_told-1 : tie.Need-enum_told-1
+enum_told-1 c = omega arith
 
-enum-known-r : tie.Need-enum-known-r
-enum-known-r c = omega arith
+enum_known-r : tie.Need-enum_known-r
+enum_known-r c = omega arith
 
-returns : tie.Need-returns
-returns c = sym (ap as_unread c.enum_told.given.1)
+returns-in-Accepted : tie.Need-returns-in-Accepted
+returns-in-Accepted c = sym (ap as_unread c.enum_told-1.given.1)
 
-returns-2 : tie.Need-returns-2
-returns-2 c = sym (ap as_unread c.before.r.given.1)
+returns-in-Refused : tie.Need-returns-in-Refused
+returns-in-Refused c = sym (ap as_unread c.before.r-1.given.1)
 
 pub unread_spec : {M : Type 1} → statement M
-unread_spec = tie.close (tie.spec enum_told enum-known-r returns returns-2)
+unread_spec = tie.close (tie.spec enum_told-1 enum_known-r returns-in-Accepted returns-in-Refused)

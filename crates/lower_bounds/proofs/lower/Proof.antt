@@ -7,20 +7,20 @@ use Rattle.model.specs.Bounds.{cyclic, within}
 use Rattle.lower_bounds.proofs.lower.Statement.{statement}
 use Rattle.lower_bounds.proofs.lower.Tie as tie
 
-recurrence-requires : tie.Need-recurrence-requires
-recurrence-requires c κs = c.before.requires
+recurrence-least-requires : tie.Need-recurrence-least-requires
+recurrence-least-requires c κs = c.before.requires
 
-returns : tie.Need-returns
-returns c = cyclic (c.before.recurrence.ensures.stuck c.if1.true) refl
+returns-then-least-eq0 : tie.Need-returns-then-least-eq0
+returns-then-least-eq0 c = cyclic (c.before.recurrence-least.ensures.stuck c.if-least-eq0.true) refl
 
 resource-requires : tie.Need-resource-requires
 resource-requires c κs = c.before.before.before.requires
 
-returns-2 : tie.Need-returns-2
-returns-2 c =
+returns : tie.Need-returns
+returns c =
     let k = c.before.before in
-    let q = k.recurrence.ensures in
-    within k.recurrence.result (q.bound (omega (arith, c.before.if1.false))) q.within (ap (λ (r : ℕ). answered (record { resource = r; recurrence = k.recurrence.result })) c.resource.ensures)
+    let q = k.recurrence-least.ensures in
+    within k.recurrence-least.result (q.bound (omega (arith, c.before.if-least-eq0.false))) q.within (ap (λ (r : ℕ). answered (record { resource = r; recurrence = k.recurrence-least.result })) c.resource.ensures)
 
 pub lower_spec : {M : Type 1} → statement M
-lower_spec = tie.close (tie.spec recurrence-requires returns resource-requires returns-2)
+lower_spec = tie.close (tie.spec recurrence-least-requires returns-then-least-eq0 resource-requires returns)

@@ -3,11 +3,11 @@ use mathlib.Core.Path.{refl}
 use Rattle.mwelitunga.proofs.as_number.Statement.{statement}
 use Rattle.mwelitunga.proofs.as_number.Tie as tie
 
-returns : tie.Need-returns
-returns c = rw c.if1.true refl
+returns-then-b : tie.Need-returns-then-b
+returns-then-b c = rw c.if-b.true refl
 
-returns-2 : tie.Need-returns-2
-returns-2 c = rw c.if1.false refl
+returns : tie.Need-returns
+returns c = rw c.if-b.false refl
 
 pub as_number_spec : {M : Type 1} → statement M
-as_number_spec = tie.close (tie.spec returns returns-2)
+as_number_spec = tie.close (tie.spec returns-then-b returns)

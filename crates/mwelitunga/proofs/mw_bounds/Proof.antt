@@ -5,26 +5,26 @@ use Rattle.mwelitunga.proofs.Words.{bounds_told}
 use Rattle.mwelitunga.proofs.mw_bounds.Statement.{statement}
 use Rattle.mwelitunga.proofs.mw_bounds.Tie as tie
 
-bounds-requires : tie.Need-bounds-requires
-bounds-requires c κs = omega arith
+bounds-lower-requires : tie.Need-bounds-lower-requires
+bounds-lower-requires c κs = omega arith
 
-enum-known-lower : tie.Need-enum-known-lower
-enum-known-lower c = omega arith
+enum_known-lower : tie.Need-enum_known-lower
+enum_known-lower c = omega arith
 
-write-answer-requires : tie.Need-write-answer-requires
-write-answer-requires c κs = omega arith
+write_answer-requires : tie.Need-write_answer-requires
+write_answer-requires c κs = omega arith
 
-enum-known-lower-2 : tie.Need-enum-known-lower-2
-enum-known-lower-2 c = omega arith
+enum_known-lower-in-Refused-1 : tie.Need-enum_known-lower-in-Refused-1
+enum_known-lower-in-Refused-1 c = omega arith
 
-write-answer-requires-2 : tie.Need-write-answer-requires-2
-write-answer-requires-2 c κs = omega arith
+write_answer-requires-in-Refused : tie.Need-write_answer-requires-in-Refused
+write_answer-requires-in-Refused c κs = omega arith
 
-returns : tie.Need-returns
-returns c = let m = c.before.before.before in bounds_told m.before.before.bounds.ensures m.lower.given.1 refl c.write-answer.ensures
+returns-in-Found : tie.Need-returns-in-Found
+returns-in-Found c = let m = c.before.before.before in bounds_told m.before.before.bounds-lower.ensures m.lower-1.given.1 refl c.write_answer.ensures
 
-returns-2 : tie.Need-returns-2
-returns-2 c = let m = c.before.before.before in bounds_told m.before.before.bounds.ensures m.lower2.given.1 refl c.write-answer2.ensures
+returns-in-Refused : tie.Need-returns-in-Refused
+returns-in-Refused c = let m = c.before.before.before in bounds_told m.before.before.bounds-lower.ensures m.lower-in-Refused-1.given.1 refl c.write_answer-in-Refused.ensures
 
 pub mw_bounds_spec : {M : Type 1} → statement M
-mw_bounds_spec = tie.close (tie.spec bounds-requires enum-known-lower write-answer-requires enum-known-lower-2 write-answer-requires-2 returns returns-2)
+mw_bounds_spec = tie.close (tie.spec bounds-lower-requires enum_known-lower write_answer-requires enum_known-lower-in-Refused-1 write_answer-requires-in-Refused returns-in-Found returns-in-Refused)

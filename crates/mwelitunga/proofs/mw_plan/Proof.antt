@@ -5,81 +5,81 @@ use Rattle.mwelitunga.proofs.Words.{plan_told}
 use Rattle.mwelitunga.proofs.mw_plan.Statement.{statement}
 use Rattle.mwelitunga.proofs.mw_plan.Tie as tie
 
-plan-requires : tie.Need-plan-requires
-plan-requires c κs = omega arith
+plan-planned-requires : tie.Need-plan-planned-requires
+plan-planned-requires c κs = omega arith
 
-enum-known-planned : tie.Need-enum-known-planned
-enum-known-planned c = omega arith
+enum_known-planned : tie.Need-enum_known-planned
+enum_known-planned c = omega arith
 
-as-number-requires : tie.Need-as-number-requires
-as-number-requires c κs = omega arith
+as_number-requires : tie.Need-as_number-requires
+as_number-requires c κs = omega arith
 
-write-answer-requires : tie.Need-write-answer-requires
-write-answer-requires c κs = omega arith
+write_answer-requires : tie.Need-write_answer-requires
+write_answer-requires c κs = omega arith
 
-enum-known-planned-2 : tie.Need-enum-known-planned-2
-enum-known-planned-2 c = omega arith
+enum_known-planned-in-Ended-1 : tie.Need-enum_known-planned-in-Ended-1
+enum_known-planned-in-Ended-1 c = omega arith
 
-write-answer-requires-2 : tie.Need-write-answer-requires-2
-write-answer-requires-2 c κs = omega arith
+write_answer-requires-in-Ended : tie.Need-write_answer-requires-in-Ended
+write_answer-requires-in-Ended c κs = omega arith
 
-enum-known-planned-3 : tie.Need-enum-known-planned-3
-enum-known-planned-3 c = omega arith
+enum_known-planned-in-Refused-1 : tie.Need-enum_known-planned-in-Refused-1
+enum_known-planned-in-Refused-1 c = omega arith
 
-write-answer-requires-3 : tie.Need-write-answer-requires-3
-write-answer-requires-3 c κs = omega arith
+write_answer-requires-in-Refused : tie.Need-write_answer-requires-in-Refused
+write_answer-requires-in-Refused c κs = omega arith
 
-same_length : tie.Need-same-length
-same_length c = omega arith
+shape_of-starts-in-Found : tie.Need-shape_of-starts-in-Found
+shape_of-starts-in-Found c = omega arith
 
-same-length-2 : tie.Need-same-length-2
-same-length-2 c = omega arith
+shape_of-rows-in-Found : tie.Need-shape_of-rows-in-Found
+shape_of-rows-in-Found c = omega arith
 
 -- the plan as the branches know it
-abbrev call : tie.After-slice-known4 → tie.After-plan
+abbrev call : tie.After-slice_known-4-1 → tie.After-plan-planned
 call c = c.before.before.before.before
 
-returns : tie.Need-returns
-returns c =
+returns-in-Found : tie.Need-returns-in-Found
+returns-in-Found c =
     let m = c.before.before.before.before in
-    plan_told (call m.before.before).plan.ensures m.planned.given.1 refl (rw c.before.as_number.ensures at c.write-answer.ensures)
+    plan_told (call m.before.before).plan-planned.ensures m.planned-1.given.1 refl (rw c.before.as_number.ensures at c.write_answer.ensures)
 
-same-length-3 : tie.Need-same-length-3
-same-length-3 c = omega arith
+shape_of-starts-in-Ended : tie.Need-shape_of-starts-in-Ended
+shape_of-starts-in-Ended c = omega arith
 
-same-length-4 : tie.Need-same-length-4
-same-length-4 c = omega arith
+shape_of-rows-in-Ended : tie.Need-shape_of-rows-in-Ended
+shape_of-rows-in-Ended c = omega arith
 
-returns-2 : tie.Need-returns-2
-returns-2 c = let m = c.before.before.before in plan_told (call m.before.before).plan.ensures m.planned2.given.1 refl c.write-answer2.ensures
+returns-in-Ended : tie.Need-returns-in-Ended
+returns-in-Ended c = let m = c.before.before.before in plan_told (call m.before.before).plan-planned.ensures m.planned-in-Ended-1.given.1 refl c.write_answer-in-Ended.ensures
 
-same-length-5 : tie.Need-same-length-5
-same-length-5 c = omega arith
+shape_of-starts-in-Refused : tie.Need-shape_of-starts-in-Refused
+shape_of-starts-in-Refused c = omega arith
 
-same-length-6 : tie.Need-same-length-6
-same-length-6 c = omega arith
+shape_of-rows-in-Refused : tie.Need-shape_of-rows-in-Refused
+shape_of-rows-in-Refused c = omega arith
 
-returns-3 : tie.Need-returns-3
-returns-3 c = let m = c.before.before.before in plan_told (call m.before.before).plan.ensures m.planned3.given.1 refl c.write-answer3.ensures
+returns-in-Refused : tie.Need-returns-in-Refused
+returns-in-Refused c = let m = c.before.before.before in plan_told (call m.before.before).plan-planned.ensures m.planned-in-Refused-1.given.1 refl c.write_answer-in-Refused.ensures
 
 pub mw_plan_spec : {M : Type 1} → statement M
 mw_plan_spec =
     tie.close
     (tie.spec
-    plan-requires
-    enum-known-planned
-    as-number-requires
-    write-answer-requires
-    enum-known-planned-2
-    write-answer-requires-2
-    enum-known-planned-3
-    write-answer-requires-3
-    same_length
-    same-length-2
-    returns
-    same-length-3
-    same-length-4
-    returns-2
-    same-length-5
-    same-length-6
-    returns-3)
+    plan-planned-requires
+    enum_known-planned
+    as_number-requires
+    write_answer-requires
+    enum_known-planned-in-Ended-1
+    write_answer-requires-in-Ended
+    enum_known-planned-in-Refused-1
+    write_answer-requires-in-Refused
+    shape_of-starts-in-Found
+    shape_of-rows-in-Found
+    returns-in-Found
+    shape_of-starts-in-Ended
+    shape_of-rows-in-Ended
+    returns-in-Ended
+    shape_of-starts-in-Refused
+    shape_of-rows-in-Refused
+    returns-in-Refused)

@@ -6,26 +6,26 @@ use Rattle.mwelitunga.proofs.Words.{told}
 use Rattle.mwelitunga.proofs.mw_read.Statement.{statement}
 use Rattle.mwelitunga.proofs.mw_read.Tie as tie
 
-read-requires : tie.Need-read-requires
-read-requires c κs = omega arith
+read-reading-requires : tie.Need-read-reading-requires
+read-reading-requires c κs = omega arith
 
-enum-known-reading : tie.Need-enum-known-reading
-enum-known-reading c = omega arith
+enum_known-reading : tie.Need-enum_known-reading
+enum_known-reading c = omega arith
 
-write-answer-requires : tie.Need-write-answer-requires
-write-answer-requires c κs = omega arith
+write_answer-requires : tie.Need-write_answer-requires
+write_answer-requires c κs = omega arith
 
-enum-known-reading-2 : tie.Need-enum-known-reading-2
-enum-known-reading-2 c = omega arith
+enum_known-reading-in-Refused-1 : tie.Need-enum_known-reading-in-Refused-1
+enum_known-reading-in-Refused-1 c = omega arith
 
-write-answer-requires-2 : tie.Need-write-answer-requires-2
-write-answer-requires-2 c κs = omega arith
+write_answer-requires-in-Refused : tie.Need-write_answer-requires-in-Refused
+write_answer-requires-in-Refused c κs = omega arith
 
-returns : tie.Need-returns
-returns c = let m = c.before.before.before in told reading_of m.before.before.read.ensures m.reading.given.1 refl c.write-answer.ensures
+returns-in-Accepted : tie.Need-returns-in-Accepted
+returns-in-Accepted c = let m = c.before.before.before in told reading_of m.before.before.read-reading.ensures m.reading-1.given.1 refl c.write_answer.ensures
 
-returns-2 : tie.Need-returns-2
-returns-2 c = let m = c.before.before.before in told reading_of m.before.before.read.ensures m.reading2.given.1 refl c.write-answer2.ensures
+returns-in-Refused : tie.Need-returns-in-Refused
+returns-in-Refused c = let m = c.before.before.before in told reading_of m.before.before.read-reading.ensures m.reading-in-Refused-1.given.1 refl c.write_answer-in-Refused.ensures
 
 pub mw_read_spec : {M : Type 1} → statement M
-mw_read_spec = tie.close (tie.spec read-requires enum-known-reading write-answer-requires enum-known-reading-2 write-answer-requires-2 returns returns-2)
+mw_read_spec = tie.close (tie.spec read-reading-requires enum_known-reading write_answer-requires enum_known-reading-in-Refused-1 write_answer-requires-in-Refused returns-in-Accepted returns-in-Refused)

@@ -5,75 +5,75 @@ use Rattle.mwelitunga.proofs.Words.{search_told}
 use Rattle.mwelitunga.proofs.mw_search.Statement.{statement}
 use Rattle.mwelitunga.proofs.mw_search.Tie as tie
 
-search-requires : tie.Need-search-requires
-search-requires c κs = omega arith
+search-searched-requires : tie.Need-search-searched-requires
+search-searched-requires c κs = omega arith
 
-enum-known-searched : tie.Need-enum-known-searched
-enum-known-searched c = omega arith
+enum_known-searched : tie.Need-enum_known-searched
+enum_known-searched c = omega arith
 
-write-answer-requires : tie.Need-write-answer-requires
-write-answer-requires c κs = omega arith
+write_answer-requires : tie.Need-write_answer-requires
+write_answer-requires c κs = omega arith
 
-enum-known-searched-2 : tie.Need-enum-known-searched-2
-enum-known-searched-2 c = omega arith
+enum_known-searched-in-Ended-1 : tie.Need-enum_known-searched-in-Ended-1
+enum_known-searched-in-Ended-1 c = omega arith
 
-write-answer-requires-2 : tie.Need-write-answer-requires-2
-write-answer-requires-2 c κs = omega arith
+write_answer-requires-in-Ended : tie.Need-write_answer-requires-in-Ended
+write_answer-requires-in-Ended c κs = omega arith
 
-enum-known-searched-3 : tie.Need-enum-known-searched-3
-enum-known-searched-3 c = omega arith
+enum_known-searched-in-Refused-1 : tie.Need-enum_known-searched-in-Refused-1
+enum_known-searched-in-Refused-1 c = omega arith
 
-write-answer-requires-3 : tie.Need-write-answer-requires-3
-write-answer-requires-3 c κs = omega arith
+write_answer-requires-in-Refused : tie.Need-write_answer-requires-in-Refused
+write_answer-requires-in-Refused c κs = omega arith
 
-same_length : tie.Need-same-length
-same_length c = omega arith
+shape_of-starts-in-Found : tie.Need-shape_of-starts-in-Found
+shape_of-starts-in-Found c = omega arith
 
-same-length-2 : tie.Need-same-length-2
-same-length-2 c = omega arith
+shape_of-rows-in-Found : tie.Need-shape_of-rows-in-Found
+shape_of-rows-in-Found c = omega arith
 
 -- the search as the branches know it
-abbrev call : tie.After-slice-known4 → tie.After-search
+abbrev call : tie.After-slice_known-4-1 → tie.After-search-searched
 call c = c.before.before.before.before
 
-returns : tie.Need-returns
-returns c = let m = c.before.before.before in search_told (call m.before.before).search.ensures m.searched.given.1 refl c.write-answer.ensures
+returns-in-Found : tie.Need-returns-in-Found
+returns-in-Found c = let m = c.before.before.before in search_told (call m.before.before).search-searched.ensures m.searched-1.given.1 refl c.write_answer.ensures
 
-same-length-3 : tie.Need-same-length-3
-same-length-3 c = omega arith
+shape_of-starts-in-Ended : tie.Need-shape_of-starts-in-Ended
+shape_of-starts-in-Ended c = omega arith
 
-same-length-4 : tie.Need-same-length-4
-same-length-4 c = omega arith
+shape_of-rows-in-Ended : tie.Need-shape_of-rows-in-Ended
+shape_of-rows-in-Ended c = omega arith
 
-returns-2 : tie.Need-returns-2
-returns-2 c = let m = c.before.before.before in search_told (call m.before.before).search.ensures m.searched2.given.1 refl c.write-answer2.ensures
+returns-in-Ended : tie.Need-returns-in-Ended
+returns-in-Ended c = let m = c.before.before.before in search_told (call m.before.before).search-searched.ensures m.searched-in-Ended-1.given.1 refl c.write_answer-in-Ended.ensures
 
-same-length-5 : tie.Need-same-length-5
-same-length-5 c = omega arith
+shape_of-starts-in-Refused : tie.Need-shape_of-starts-in-Refused
+shape_of-starts-in-Refused c = omega arith
 
-same-length-6 : tie.Need-same-length-6
-same-length-6 c = omega arith
+shape_of-rows-in-Refused : tie.Need-shape_of-rows-in-Refused
+shape_of-rows-in-Refused c = omega arith
 
-returns-3 : tie.Need-returns-3
-returns-3 c = let m = c.before.before.before in search_told (call m.before.before).search.ensures m.searched3.given.1 refl c.write-answer3.ensures
+returns-in-Refused : tie.Need-returns-in-Refused
+returns-in-Refused c = let m = c.before.before.before in search_told (call m.before.before).search-searched.ensures m.searched-in-Refused-1.given.1 refl c.write_answer-in-Refused.ensures
 
 pub mw_search_spec : {M : Type 1} → statement M
 mw_search_spec =
     tie.close
     (tie.spec
-    search-requires
-    enum-known-searched
-    write-answer-requires
-    enum-known-searched-2
-    write-answer-requires-2
-    enum-known-searched-3
-    write-answer-requires-3
-    same_length
-    same-length-2
-    returns
-    same-length-3
-    same-length-4
-    returns-2
-    same-length-5
-    same-length-6
-    returns-3)
+    search-searched-requires
+    enum_known-searched
+    write_answer-requires
+    enum_known-searched-in-Ended-1
+    write_answer-requires-in-Ended
+    enum_known-searched-in-Refused-1
+    write_answer-requires-in-Refused
+    shape_of-starts-in-Found
+    shape_of-rows-in-Found
+    returns-in-Found
+    shape_of-starts-in-Ended
+    shape_of-rows-in-Ended
+    returns-in-Ended
+    shape_of-starts-in-Refused
+    shape_of-rows-in-Refused
+    returns-in-Refused)

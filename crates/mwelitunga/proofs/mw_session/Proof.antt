@@ -16,112 +16,112 @@ use Rattle.mwelitunga.specs.Words.{check_number, check_detail}
 use Rattle.mwelitunga.proofs.mw_session.Statement.{statement}
 use Rattle.mwelitunga.proofs.mw_session.Tie as tie
 
-unfit-requires : tie.Need-unfit-requires
-unfit-requires c κs = omega arith
+unfit-checked-requires : tie.Need-unfit-checked-requires
+unfit-checked-requires c κs = omega arith
 
-enum_told : tie.Need-enum-told
-enum_told c = omega arith
+enum_told-1 : tie.Need-enum_told-1
+enum_told-1 c = omega arith
 
-enum-told-2 : tie.Need-enum-told-2
-enum-told-2 c = omega arith
+enum_told-in_default : tie.Need-enum_told-in_default
+enum_told-in_default c = omega arith
 
-write-refusal-requires : tie.Need-write-refusal-requires
-write-refusal-requires c κs = omega arith
+write_refusal-requires : tie.Need-write_refusal-requires
+write_refusal-requires c κs = omega arith
 
 -- the eight numbers of a check's refusal
 abbrev detail_words : List ℕ → Checked → List ℕ
 detail_words before x = written 0 (check_detail x ∷ 0 ∷ 0 ∷ 0 ∷ 0 ∷ 0 ∷ 0 ∷ 0 ∷ []) before
 
 -- the function's entry, as its calls see it
-abbrev start : tie.After-unfit → tie.Start
+abbrev start : tie.After-unfit-checked → tie.Start
 start c = c.before.before.before.before.before
 
-returns : tie.Need-returns
-returns c =
+returns-in_default : tie.Need-returns-in_default
+returns-in_default c =
     let t = c.before.before in
     let u = t.before.before in
     let a = (start u).args in
-    let e = t.enum-told2.given.1 in
-    let g = c.write-refusal.ensures in
+    let e = t.enum_told-in_default-1.given.1 in
+    let g = c.write_refusal.ensures in
     rw (g.number ∙ ap check_number e)
-    (calls_refused a.file.now a.interval a.horizon a.calls.now a.rows.now a.replies.now a.starts.now a.free.now a.answer.now _ _ _
-    (sym u.unfit.ensures ∙ ap refusal_of e) (g.words ∙ ap (detail_words a.answer.now) e))
+    (calls_refused a.file.now a.interval a.horizon a.calls.now a.rows-1.now a.replies-1.now a.starts.now a.free.now a.answer.now _ _ _
+    (sym u.unfit-checked.ensures ∙ ap refusal_of e) (g.words ∙ ap (detail_words a.answer.now) e))
 
-open-requires : tie.Need-open-requires
-open-requires c κs = omega arith
+open-opening-requires : tie.Need-open-opening-requires
+open-opening-requires c κs = omega arith
 
-enum-told-3 : tie.Need-enum-told-3
-enum-told-3 c = omega arith
+enum_told-in-Fine-opened : tie.Need-enum_told-in-Fine-opened
+enum_told-in-Fine-opened c = omega arith
 
-enum-told-4 : tie.Need-enum-told-4
-enum-told-4 c = omega arith
+enum_told-in_default-opened : tie.Need-enum_told-in_default-opened
+enum_told-in_default-opened c = omega arith
 
-write-refusal-requires-2 : tie.Need-write-refusal-requires-2
-write-refusal-requires-2 c κs = omega arith
+write_refusal-requires-in_default-opened : tie.Need-write_refusal-requires-in_default-opened
+write_refusal-requires-in_default-opened c κs = omega arith
 
 -- nothing is against the calls
-fine : (c : tie.After-enum-told) → let a = (start c.before.before).args in first_refusal (call_checks a.calls.now (length a.replies.now)) ≡ none
-fine c = sym c.before.before.unfit.ensures ∙ ap refusal_of c.enum_told.given.1
+fine : (c : tie.In-Fine) → let a = (start c.before.before).args in first_refusal (call_checks a.calls.now (length a.replies-1.now)) ≡ none
+fine c = sym c.before.before.unfit-checked.ensures ∙ ap refusal_of c.enum_told-1.given.1
 
-same_length : tie.Need-same-length
-same_length c = omega arith
+shape_of-rows-in_default-opened : tie.Need-shape_of-rows-in_default-opened
+shape_of-rows-in_default-opened c = omega arith
 
-returns-2 : tie.Need-returns-2
-returns-2 c =
+returns-in_default-opened : tie.Need-returns-in_default-opened
+returns-in_default-opened c =
     let t = c.before.before in
     let o = t.before.before.before.before in
     let e = o.before.before in
     let a = (start e.before.before).args in
-    let q = t.enum-told4.given.1 in
-    let g = c.write-refusal2.ensures in
+    let q = t.enum_told-in_default-opened-1.given.1 in
+    let g = c.write_refusal-in_default-opened.ensures in
     rw (g.number ∙ ap check_number q)
-    (opening_refused a.file.now a.interval a.horizon a.calls.now a.rows.now a.replies.now a.starts.now a.free.now a.answer.now _ (fine e)
+    (opening_refused a.file.now a.interval a.horizon a.calls.now a.rows-1.now a.replies-1.now a.starts.now a.free.now a.answer.now _ (fine e)
     (opened_is o.«open».ensures q) (g.words ∙ ap (detail_words a.answer.now) q))
 
-run-requires : tie.Need-run-requires
-run-requires c κs =
+run-marks-requires : tie.Need-run-marks-requires
+run-marks-requires c κs =
     let t = c.before.before.before.before.before in
     let o = t.before.before.before.before in
     let e = o.before.before in
     let a = (start e.before.before).args in
-    ((from_open (opened_is o.«open».ensures t.enum-told3.given.1)).valid, omega arith, fit_room a.calls.now (length a.replies.now) (fine e))
+    ((from_open (opened_is o.«open».ensures t.enum_told-in-Fine-opened-1.given.1)).valid, omega arith, fit_room a.calls.now (length a.replies-1.now) (fine e))
 
-write-answer-requires : tie.Need-write-answer-requires
-write-answer-requires c κs = omega arith
+write_answer-requires : tie.Need-write_answer-requires
+write_answer-requires c κs = omega arith
 
-same-length-2 : tie.Need-same-length-2
-same-length-2 c = omega arith
+shape_of-rows : tie.Need-shape_of-rows
+shape_of-rows c = omega arith
 
-same-length-3 : tie.Need-same-length-3
-same-length-3 c = omega arith
+shape_of-replies : tie.Need-shape_of-replies
+shape_of-replies c = omega arith
 
-returns-3 : tie.Need-returns-3
-returns-3 c =
+returns : tie.Need-returns
+returns c =
     let r = c.before.before.before.before.before.before in
     let t = r.before.before.before.before.before.before in
     let o = t.before.before.before.before in
     let e = o.before.before in
     let a = (start e.before.before).args in
-    all_made a.file.now a.interval a.horizon a.calls.now a.rows.now a.replies.now a.starts.now a.free.now a.answer.now _ (fine e)
-    (opened_is o.«open».ensures t.enum-told3.given.1) r.run.ensures c.write-answer.ensures
+    all_made a.file.now a.interval a.horizon a.calls.now a.rows-1.now a.replies-1.now a.starts.now a.free.now a.answer.now _ (fine e)
+    (opened_is o.«open».ensures t.enum_told-in-Fine-opened-1.given.1) r.run-marks.ensures c.write_answer.ensures
 
 pub mw_session_spec : {M : Type 1} → statement M
 mw_session_spec =
     tie.close
     (tie.spec
-    unfit-requires
-    enum_told
-    enum-told-2
-    write-refusal-requires
-    returns
-    open-requires
-    enum-told-3
-    enum-told-4
-    write-refusal-requires-2
-    same_length
-    returns-2
-    run-requires
-    write-answer-requires
-    same-length-2
-    same-length-3
-    returns-3)
+    unfit-checked-requires
+    enum_told-1
+    enum_told-in_default
+    write_refusal-requires
+    returns-in_default
+    open-opening-requires
+    enum_told-in-Fine-opened
+    enum_told-in_default-opened
+    write_refusal-requires-in_default-opened
+    shape_of-rows-in_default-opened
+    returns-in_default-opened
+    run-marks-requires
+    write_answer-requires
+    shape_of-rows
+    shape_of-replies
+    returns)

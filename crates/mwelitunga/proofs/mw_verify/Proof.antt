@@ -6,59 +6,59 @@ use Rattle.mwelitunga.proofs.Words.{told}
 use Rattle.mwelitunga.proofs.mw_verify.Statement.{statement}
 use Rattle.mwelitunga.proofs.mw_verify.Tie as tie
 
-verify-requires : tie.Need-verify-requires
-verify-requires c κs = omega arith
+verify-verdict-requires : tie.Need-verify-verdict-requires
+verify-verdict-requires c κs = omega arith
 
-enum_told : tie.Need-enum-told
-enum_told c = omega arith
+enum_told-1 : tie.Need-enum_told-1
+enum_told-1 c = omega arith
 
-write-answer-requires : tie.Need-write-answer-requires
-write-answer-requires c κs = omega arith
+write_answer-requires : tie.Need-write_answer-requires
+write_answer-requires c κs = omega arith
 
-enum-known-verdict : tie.Need-enum-known-verdict
-enum-known-verdict c = omega arith
+enum_known-verdict : tie.Need-enum_known-verdict
+enum_known-verdict c = omega arith
 
-write-answer-requires-2 : tie.Need-write-answer-requires-2
-write-answer-requires-2 c κs = omega arith
+write_answer-requires-in-Broken : tie.Need-write_answer-requires-in-Broken
+write_answer-requires-in-Broken c κs = omega arith
 
-enum-known-verdict-2 : tie.Need-enum-known-verdict-2
-enum-known-verdict-2 c = omega arith
+enum_known-verdict-in-Conflict-1 : tie.Need-enum_known-verdict-in-Conflict-1
+enum_known-verdict-in-Conflict-1 c = omega arith
 
-write-answer-requires-3 : tie.Need-write-answer-requires-3
-write-answer-requires-3 c κs = omega arith
+write_answer-requires-in-Conflict : tie.Need-write_answer-requires-in-Conflict
+write_answer-requires-in-Conflict c κs = omega arith
 
-enum-known-verdict-3 : tie.Need-enum-known-verdict-3
-enum-known-verdict-3 c = omega arith
+enum_known-verdict-in-Refused-1 : tie.Need-enum_known-verdict-in-Refused-1
+enum_known-verdict-in-Refused-1 c = omega arith
 
-write-answer-requires-4 : tie.Need-write-answer-requires-4
-write-answer-requires-4 c κs = omega arith
+write_answer-requires-in-Refused : tie.Need-write_answer-requires-in-Refused
+write_answer-requires-in-Refused c κs = omega arith
 
-returns : tie.Need-returns
-returns c = let m = c.before.before in told verdict_of m.before.before.verify.ensures m.enum_told.given.1 refl c.write-answer.ensures
+returns-in-Legal : tie.Need-returns-in-Legal
+returns-in-Legal c = let m = c.before.before in told verdict_of m.before.before.verify-verdict.ensures m.enum_told-1.given.1 refl c.write_answer.ensures
 
-returns-2 : tie.Need-returns-2
-returns-2 c = let m = c.before.before.before in told verdict_of m.before.before.verify.ensures m.verdict.given.1 refl c.write-answer2.ensures
+returns-in-Broken : tie.Need-returns-in-Broken
+returns-in-Broken c = let m = c.before.before.before in told verdict_of m.before.before.verify-verdict.ensures m.verdict-1.given.1 refl c.write_answer-in-Broken.ensures
 
-returns-3 : tie.Need-returns-3
-returns-3 c = let m = c.before.before.before in told verdict_of m.before.before.verify.ensures m.verdict2.given.1 refl c.write-answer3.ensures
+returns-in-Conflict : tie.Need-returns-in-Conflict
+returns-in-Conflict c = let m = c.before.before.before in told verdict_of m.before.before.verify-verdict.ensures m.verdict-in-Conflict-1.given.1 refl c.write_answer-in-Conflict.ensures
 
-returns-4 : tie.Need-returns-4
-returns-4 c = let m = c.before.before.before in told verdict_of m.before.before.verify.ensures m.verdict3.given.1 refl c.write-answer4.ensures
+returns-in-Refused : tie.Need-returns-in-Refused
+returns-in-Refused c = let m = c.before.before.before in told verdict_of m.before.before.verify-verdict.ensures m.verdict-in-Refused-1.given.1 refl c.write_answer-in-Refused.ensures
 
 pub mw_verify_spec : {M : Type 1} → statement M
 mw_verify_spec =
     tie.close
     (tie.spec
-    verify-requires
-    enum_told
-    write-answer-requires
-    enum-known-verdict
-    write-answer-requires-2
-    enum-known-verdict-2
-    write-answer-requires-3
-    enum-known-verdict-3
-    write-answer-requires-4
-    returns
-    returns-2
-    returns-3
-    returns-4)
+    verify-verdict-requires
+    enum_told-1
+    write_answer-requires
+    enum_known-verdict
+    write_answer-requires-in-Broken
+    enum_known-verdict-in-Conflict-1
+    write_answer-requires-in-Conflict
+    enum_known-verdict-in-Refused-1
+    write_answer-requires-in-Refused
+    returns-in-Legal
+    returns-in-Broken
+    returns-in-Conflict
+    returns-in-Refused)

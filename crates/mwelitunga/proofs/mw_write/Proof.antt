@@ -6,40 +6,40 @@ use Rattle.mwelitunga.proofs.Words.{told}
 use Rattle.mwelitunga.proofs.mw_write.Statement.{statement}
 use Rattle.mwelitunga.proofs.mw_write.Tie as tie
 
-write-requires : tie.Need-write-requires
-write-requires c κs = omega arith
+write-written-requires : tie.Need-write-written-requires
+write-written-requires c κs = omega arith
 
-enum-known-written : tie.Need-enum-known-written
-enum-known-written c = omega arith
+enum_known-written : tie.Need-enum_known-written
+enum_known-written c = omega arith
 
-write-answer-requires : tie.Need-write-answer-requires
-write-answer-requires c κs = omega arith
+write_answer-requires : tie.Need-write_answer-requires
+write_answer-requires c κs = omega arith
 
-enum-known-written-2 : tie.Need-enum-known-written-2
-enum-known-written-2 c = omega arith
+enum_known-written-in-Refused-1 : tie.Need-enum_known-written-in-Refused-1
+enum_known-written-in-Refused-1 c = omega arith
 
-write-answer-requires-2 : tie.Need-write-answer-requires-2
-write-answer-requires-2 c κs = omega arith
+write_answer-requires-in-Refused : tie.Need-write_answer-requires-in-Refused
+write_answer-requires-in-Refused c κs = omega arith
 
-same_length : tie.Need-same-length
-same_length c = omega arith
+shape_of-buffer-in-Bytes : tie.Need-shape_of-buffer-in-Bytes
+shape_of-buffer-in-Bytes c = omega arith
 
-returns : tie.Need-returns
-returns c =
+returns-in-Bytes : tie.Need-returns-in-Bytes
+returns-in-Bytes c =
     let m = c.before.before.before in
-    let w = m.before.before.before.before.write.ensures in
-    record { gives = told written_of w.says m.written.given.1 refl c.write-answer.ensures; buffer_is = w.leaves }
+    let w = m.before.before.before.before.write-written.ensures in
+    record { gives = told written_of w.says m.written-1.given.1 refl c.write_answer.ensures; buffer_is = w.leaves }
 
-same-length-2 : tie.Need-same-length-2
-same-length-2 c = omega arith
+shape_of-buffer-in-Refused : tie.Need-shape_of-buffer-in-Refused
+shape_of-buffer-in-Refused c = omega arith
 
-returns-2 : tie.Need-returns-2
-returns-2 c =
+returns-in-Refused : tie.Need-returns-in-Refused
+returns-in-Refused c =
     let m = c.before.before.before in
-    let w = m.before.before.before.before.write.ensures in
-    record { gives = told written_of w.says m.written2.given.1 refl c.write-answer2.ensures; buffer_is = w.leaves }
+    let w = m.before.before.before.before.write-written.ensures in
+    record { gives = told written_of w.says m.written-in-Refused-1.given.1 refl c.write_answer-in-Refused.ensures; buffer_is = w.leaves }
 
 pub mw_write_spec : {M : Type 1} → statement M
 mw_write_spec =
     tie.close
-    (tie.spec write-requires enum-known-written write-answer-requires enum-known-written-2 write-answer-requires-2 same_length returns same-length-2 returns-2)
+    (tie.spec write-written-requires enum_known-written write_answer-requires enum_known-written-in-Refused-1 write_answer-requires-in-Refused shape_of-buffer-in-Bytes returns-in-Bytes shape_of-buffer-in-Refused returns-in-Refused)

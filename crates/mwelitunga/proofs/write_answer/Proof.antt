@@ -5,29 +5,29 @@ use Rattle.model.specs.Lists.{written}
 use Rattle.mwelitunga.proofs.write_answer.Statement.{statement}
 use Rattle.mwelitunga.proofs.write_answer.Tie as tie
 
-element-write-answer : tie.Need-element-write-answer
-element-write-answer c = omega arith
+bounds-answer-0 : tie.Need-bounds-answer-0
+bounds-answer-0 c = omega arith
 
-element-write-answer-2 : tie.Need-element-write-answer-2
-element-write-answer-2 c = omega arith
+bounds-answer-1 : tie.Need-bounds-answer-1
+bounds-answer-1 c = omega arith
 
-element-write-answer-3 : tie.Need-element-write-answer-3
-element-write-answer-3 c = omega arith
+bounds-answer-2 : tie.Need-bounds-answer-2
+bounds-answer-2 c = omega arith
 
-element-write-answer-4 : tie.Need-element-write-answer-4
-element-write-answer-4 c = omega arith
+bounds-answer-3 : tie.Need-bounds-answer-3
+bounds-answer-3 c = omega arith
 
-element-write-answer-5 : tie.Need-element-write-answer-5
-element-write-answer-5 c = omega arith
+bounds-answer-4 : tie.Need-bounds-answer-4
+bounds-answer-4 c = omega arith
 
-element-write-answer-6 : tie.Need-element-write-answer-6
-element-write-answer-6 c = omega arith
+bounds-answer-5 : tie.Need-bounds-answer-5
+bounds-answer-5 c = omega arith
 
-element-write-answer-7 : tie.Need-element-write-answer-7
-element-write-answer-7 c = omega arith
+bounds-answer-6 : tie.Need-bounds-answer-6
+bounds-answer-6 c = omega arith
 
-element-write-answer-8 : tie.Need-element-write-answer-8
-element-write-answer-8 c = omega arith
+bounds-answer-7 : tie.Need-bounds-answer-7
+bounds-answer-7 c = omega arith
 
 returns : tie.Need-returns
 unfolding written
@@ -37,12 +37,12 @@ pub write_answer_spec : {M : Type 1} → statement M
 write_answer_spec =
     tie.close
     (tie.spec
-    element-write-answer
-    element-write-answer-2
-    element-write-answer-3
-    element-write-answer-4
-    element-write-answer-5
-    element-write-answer-6
-    element-write-answer-7
-    element-write-answer-8
+    bounds-answer-0
+    bounds-answer-1
+    bounds-answer-2
+    bounds-answer-3
+    bounds-answer-4
+    bounds-answer-5
+    bounds-answer-6
+    bounds-answer-7
     returns)

@@ -5,23 +5,23 @@ use Rattle.mwelitunga.proofs.Words.{refusal_told}
 use Rattle.mwelitunga.proofs.write_refusal.Statement.{statement}
 use Rattle.mwelitunga.proofs.write_refusal.Tie as tie
 
-enum_told : tie.Need-enum-told
-enum_told c = omega arith
+enum_told-1 : tie.Need-enum_told-1
+enum_told-1 c = omega arith
 
-write-answer-requires : tie.Need-write-answer-requires
-write-answer-requires c κs = omega arith
+write_answer-requires : tie.Need-write_answer-requires
+write_answer-requires c κs = omega arith
 
-enum-known-c : tie.Need-enum-known-c
-enum-known-c c = omega arith
+enum_known-c : tie.Need-enum_known-c
+enum_known-c c = omega arith
 
-write-answer-requires-2 : tie.Need-write-answer-requires-2
-write-answer-requires-2 c κs = omega arith
+write_answer-requires-in-Refused : tie.Need-write_answer-requires-in-Refused
+write_answer-requires-in-Refused c κs = omega arith
 
-returns : tie.Need-returns
-returns c = refusal_told c.before.before.enum_told.given.1 refl c.write-answer.ensures
+returns-in-Fine : tie.Need-returns-in-Fine
+returns-in-Fine c = refusal_told c.before.before.enum_told-1.given.1 refl c.write_answer.ensures
 
-returns-2 : tie.Need-returns-2
-returns-2 c = refusal_told c.before.before.before.c.given.1 refl c.write-answer2.ensures
+returns-in-Refused : tie.Need-returns-in-Refused
+returns-in-Refused c = refusal_told c.before.before.before.c-1.given.1 refl c.write_answer-in-Refused.ensures
 
 pub write_refusal_spec : {M : Type 1} → statement M
-write_refusal_spec = tie.close (tie.spec enum_told write-answer-requires enum-known-c write-answer-requires-2 returns returns-2)
+write_refusal_spec = tie.close (tie.spec enum_told-1 write_answer-requires enum_known-c write_answer-requires-in-Refused returns-in-Fine returns-in-Refused)

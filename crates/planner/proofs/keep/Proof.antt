@@ -9,16 +9,16 @@ use Rattle.planner.specs.declared.Planned.TheVariants as planned
 use Rattle.planner.proofs.keep.Statement.{statement}
 use Rattle.planner.proofs.keep.Tie as tie
 
-write-list-requires : tie.Need-write-list-requires
-write-list-requires c κs =
+write_list-requires : tie.Need-write_list-requires
+write_list-requires c κs =
     let p = c.before.before.before.before.requires in
     (p.room, omega (arith, p.is_size, p.wide, (accepted_ok c.before.before.before.before.args.file.now p.accepted).few))
 
-stage-count-requires : tie.Need-stage-count-requires
-stage-count-requires c κs = c.before.before.before.before.before.before.before.before.requires.accepted
+stage_count-requires : tie.Need-stage_count-requires
+stage_count-requires c κs = c.before.before.before.before.before.before.before.before.requires.accepted
 
-same_length : tie.Need-same-length
-same_length c = omega arith
+shape_of-list : tie.Need-shape_of-list
+shape_of-list c = omega arith
 
 returns : tie.Need-returns
 returns c =
@@ -27,9 +27,9 @@ returns c =
     let a = s.args in
     record {
       says = ap (λ (k : ℕ). planned.Found (record { interval = a.interval; resource = a.resource; recurrence = a.recurrence; stages = k; smallest = a.smallest }))
-          (c.stage-count.ensures ∙ sym (stages_take (loop_of a.file.now) a.interval a.n a.starts.now s.requires.is_size));
-      list_is = w.write-list.ensures;
+          (c.stage_count.ensures ∙ sym (stages_take (loop_of a.file.now) a.interval a.n a.starts.now s.requires.is_size));
+      list_is = w.write_list.ensures;
     }
 
 pub keep_spec : {M : Type 1} → statement M
-keep_spec = tie.close (tie.spec write-list-requires stage-count-requires same_length returns)
+keep_spec = tie.close (tie.spec write_list-requires stage_count-requires shape_of-list returns)

@@ -5,17 +5,17 @@ use Rattle.planner.specs.Parts.{as_plan_refused}
 use Rattle.planner.proofs.refused.Statement.{statement}
 use Rattle.planner.proofs.refused.Tie as tie
 
-enum_told : tie.Need-enum-told
-enum_told c = search rules
+enum_told-1 : tie.Need-enum_told-1
+enum_told-1 c = search rules
 
-enum-known-c : tie.Need-enum-known-c
-enum-known-c c = search rules
+enum_known-c : tie.Need-enum_known-c
+enum_known-c c = search rules
 
-returns : tie.Need-returns
-returns c = search rules
+returns-in-Fine : tie.Need-returns-in-Fine
+returns-in-Fine c = search rules
 
-returns-2 : tie.Need-returns-2
-returns-2 c = sym (ap as_plan_refused c.before.c.given.1)
+returns-in-Refused : tie.Need-returns-in-Refused
+returns-in-Refused c = sym (ap as_plan_refused c.before.c-1.given.1)
 
 pub refused_spec : {M : Type 1} → statement M
-refused_spec = tie.close (tie.spec enum_told enum-known-c returns returns-2)
+refused_spec = tie.close (tie.spec enum_told-1 enum_known-c returns-in-Fine returns-in-Refused)

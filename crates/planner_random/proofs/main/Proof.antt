@@ -5,55 +5,51 @@ use borrow.Author.Rules.{rules}
 use Rattle.planner_random.proofs.main.Statement.{statement}
 use Rattle.planner_random.proofs.main.Tie as tie
 
-abbrev invariant-loop : tie.invariant-loop
-invariant-loop t₀ i₀ t4 t i = Unit
+abbrev invariant-loop-i : tie.invariant-loop-i
+invariant-loop-i t₀ i₀ t4 t i = Unit
 
-abbrev decreases-loop : tie.decreases-loop
-decreases-loop t₀ i₀ t4 t i = 1000 - i
+abbrev decreases-loop-i : tie.decreases-loop-i
+decreases-loop-i t₀ i₀ t4 t i = 1000 - i
 
-loop-holds : tie.Need-loop-init invariant-loop decreases-loop
-loop-holds c = tt
+loop-i-init : tie.Need-loop-i-init invariant-loop-i decreases-loop-i
+loop-i-init c = tt
 
-add-through : tie.Need-overflow-add-through invariant-loop decreases-loop
-add-through c = omega arith
+overflow_add-i : tie.Need-overflow_add-i invariant-loop-i decreases-loop-i
+overflow_add-i c = omega arith
 
-through-requires : tie.Need-through-requires invariant-loop decreases-loop
-through-requires c κs = tt
+through-t-requires : tie.Need-through-t-requires invariant-loop-i decreases-loop-i
+through-t-requires c κs = tt
 
-add-i : tie.Need-overflow-add-i invariant-loop decreases-loop
-add-i c = omega arith
+overflow_add-i-in-loop-i : tie.Need-overflow_add-i-in-loop-i invariant-loop-i decreases-loop-i
+overflow_add-i-in-loop-i c = omega arith
 
-slice-aggregate-list : tie.Need-slice-aggregate-list invariant-loop decreases-loop
-slice-aggregate-list c = search rules
+slice_bounds-list-end-in-loop-i : tie.Need-slice_bounds-list-end-in-loop-i invariant-loop-i decreases-loop-i
+slice_bounds-list-end-in-loop-i c = search rules
 
-slice-aggregate-list-2 : tie.Need-slice-aggregate-list-2 invariant-loop decreases-loop
-slice-aggregate-list-2 c = search rules
-
-list-requires : tie.Need-list-requires invariant-loop decreases-loop
+list-requires : tie.Need-list-requires invariant-loop-i decreases-loop-i
 list-requires c κs = tt
 
-loop-less : tie.Need-loop-smaller invariant-loop decreases-loop
-loop-less c = omega arith
+loop-i-smaller : tie.Need-loop-i-smaller invariant-loop-i decreases-loop-i
+loop-i-smaller c = omega arith
 
-loop-again : tie.Need-loop-preserved invariant-loop decreases-loop
-loop-again c = tt
+loop-i-preserved : tie.Need-loop-i-preserved invariant-loop-i decreases-loop-i
+loop-i-preserved c = tt
 
-returns : tie.Need-returns invariant-loop decreases-loop
+returns : tie.Need-returns invariant-loop-i decreases-loop-i
 returns c = tt
 
 pub main_spec : {M : Type 1} → statement M
 main_spec =
     tie.close
     (tie.spec
-    invariant-loop
-    decreases-loop
-    loop-holds
-    add-through
-    through-requires
-    add-i
-    slice-aggregate-list
-    slice-aggregate-list-2
+    invariant-loop-i
+    decreases-loop-i
+    loop-i-init
+    overflow_add-i
+    through-t-requires
+    overflow_add-i-in-loop-i
+    slice_bounds-list-end-in-loop-i
     list-requires
-    loop-less
-    loop-again
+    loop-i-smaller
+    loop-i-preserved
     returns)

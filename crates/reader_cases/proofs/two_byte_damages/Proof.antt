@@ -4,47 +4,47 @@ use borrow.Author.Rules.{rules}
 use Rattle.reader_cases.proofs.two_byte_damages.Statement.{statement}
 use Rattle.reader_cases.proofs.two_byte_damages.Tie as tie
 
-abbrev invariant-loop : tie.invariant-loop
-invariant-loop i₀ i = Unit
+abbrev invariant-loop-i : tie.invariant-loop-i
+invariant-loop-i i₀ i = Unit
 
-abbrev decreases-loop : tie.decreases-loop
-decreases-loop i₀ i = 31 - i
+abbrev decreases-loop-i : tie.decreases-loop-i
+decreases-loop-i i₀ i = 31 - i
 
-loop-holds : tie.Need-loop-init invariant-loop decreases-loop
-loop-holds c = search rules
+loop-i-init : tie.Need-loop-i-init invariant-loop-i decreases-loop-i
+loop-i-init c = search rules
 
-mul-both : tie.Need-overflow-mul-both invariant-loop decreases-loop
-mul-both c = search rules
+offset_bounds-i : tie.Need-offset_bounds-i invariant-loop-i decreases-loop-i
+offset_bounds-i c = search rules
 
-array-read-both : tie.Need-array-read-both invariant-loop decreases-loop
-array-read-both c = search rules
+bounds-i : tie.Need-bounds-i invariant-loop-i decreases-loop-i
+bounds-i c = search rules
 
-two-bytes-requires : tie.Need-two-bytes-requires invariant-loop decreases-loop
-two-bytes-requires c κs = search rules
+two_bytes-requires : tie.Need-two_bytes-requires invariant-loop-i decreases-loop-i
+two_bytes-requires c κs = search rules
 
-add-i : tie.Need-overflow-add-i invariant-loop decreases-loop
-add-i c = search rules
+overflow_add-i : tie.Need-overflow_add-i invariant-loop-i decreases-loop-i
+overflow_add-i c = search rules
 
-loop-less : tie.Need-loop-smaller invariant-loop decreases-loop
-loop-less c = search rules
+loop-i-smaller : tie.Need-loop-i-smaller invariant-loop-i decreases-loop-i
+loop-i-smaller c = search rules
 
-loop-again : tie.Need-loop-preserved invariant-loop decreases-loop
-loop-again c = search rules
+loop-i-preserved : tie.Need-loop-i-preserved invariant-loop-i decreases-loop-i
+loop-i-preserved c = search rules
 
-returns : tie.Need-returns invariant-loop decreases-loop
+returns : tie.Need-returns invariant-loop-i decreases-loop-i
 returns c = search rules
 
 pub two_byte_damages_spec : {M : Type 1} → statement M
 two_byte_damages_spec =
     tie.close
     (tie.spec
-    invariant-loop
-    decreases-loop
-    loop-holds
-    mul-both
-    array-read-both
-    two-bytes-requires
-    add-i
-    loop-less
-    loop-again
+    invariant-loop-i
+    decreases-loop-i
+    loop-i-init
+    offset_bounds-i
+    bounds-i
+    two_bytes-requires
+    overflow_add-i
+    loop-i-smaller
+    loop-i-preserved
     returns)

@@ -4,13 +4,13 @@ use Rattle.model.specs.Refusals.{first_refusal}
 use Rattle.refusals.proofs.lent.Statement.{statement}
 use Rattle.refusals.proofs.lent.Tie as tie
 
+returns-then-has-needs : tie.Need-returns-then-has-needs
+unfolding first_refusal
+returns-then-has-needs c = let a = c.before.args in rw (lt-ltb a.has a.needs c.if-has-needs.true)
+
 returns : tie.Need-returns
 unfolding first_refusal
-returns c = let a = c.before.args in rw (lt-ltb a.has a.needs c.if1.true)
-
-returns-2 : tie.Need-returns-2
-unfolding first_refusal
-returns-2 c = let a = c.before.args in rw (le-ltb a.has a.needs c.if1.false)
+returns c = let a = c.before.args in rw (le-ltb a.has a.needs c.if-has-needs.false)
 
 pub lent_spec : {M : Type 1} → statement M
-lent_spec = tie.close (tie.spec returns returns-2)
+lent_spec = tie.close (tie.spec returns-then-has-needs returns)

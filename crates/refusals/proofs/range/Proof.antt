@@ -4,17 +4,17 @@ use Rattle.model.proofs.Checks.{too_small, too_large, in_range}
 use Rattle.refusals.proofs.range.Statement.{statement}
 use Rattle.refusals.proofs.range.Tie as tie
 
+returns-then-x-lt1 : tie.Need-returns-then-x-lt1
+unfolding first_refusal
+returns-then-x-lt1 c = let a = c.before.args in rw (too_small a.most a.x c.if-x-lt1.true)
+
+returns-then-most-x : tie.Need-returns-then-most-x
+unfolding first_refusal
+returns-then-most-x c = let a = c.before.before.args in rw (too_large a.most a.x c.before.if-x-lt1.false c.if-most-x.true)
+
 returns : tie.Need-returns
 unfolding first_refusal
-returns c = let a = c.before.args in rw (too_small a.most a.x c.if1.true)
-
-returns-2 : tie.Need-returns-2
-unfolding first_refusal
-returns-2 c = let a = c.before.before.args in rw (too_large a.most a.x c.before.if1.false c.if2.true)
-
-returns-3 : tie.Need-returns-3
-unfolding first_refusal
-returns-3 c = let a = c.before.before.args in rw (in_range a.most a.x c.before.if1.false c.if2.false)
+returns c = let a = c.before.before.args in rw (in_range a.most a.x c.before.if-x-lt1.false c.if-most-x.false)
 
 pub range_spec : {M : Type 1} → statement M
-range_spec = tie.close (tie.spec returns returns-2 returns-3)
+range_spec = tie.close (tie.spec returns-then-x-lt1 returns-then-most-x returns)

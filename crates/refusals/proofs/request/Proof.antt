@@ -32,130 +32,130 @@ module _ (s : tie.Start) where
 
 -- ---- the cap
 
-range-requires : tie.Need-range-requires
-range-requires c κs = omega arith
+range-by_cap-requires : tie.Need-range-by_cap-requires
+range-by_cap-requires c κs = omega arith
 
-enum_told : tie.Need-enum-told
-enum_told c = omega arith
+enum_told-1 : tie.Need-enum_told-1
+enum_told-1 c = omega arith
 
-enum-told-2 : tie.Need-enum-told-2
-enum-told-2 c = omega arith
+enum_told-in_default : tie.Need-enum_told-in_default
+enum_told-in_default c = omega arith
 
-returns : tie.Need-returns
-returns c l e =
+returns-in_default : tie.Need-returns-in_default
+returns-in_default c l e =
     let k = c.before.before in
     let s = k.before in
-    refused_first (range 1 4096 s.args.cap ∷ []) (byHorizon s s.args.n) k.range.ensures c.enum-told2.given.1 ∙ whole s l e
+    refused_first (range 1 4096 s.args.cap ∷ []) (byHorizon s s.args.n) k.range-by_cap.ensures c.enum_told-in_default-1.given.1 ∙ whole s l e
 
 -- it passes
-abbrev at_cap : tie.After-enum-told → tie.Start
+abbrev at_cap : tie.In-Fine → tie.Start
 at_cap c = c.before.before.before
 
-cap_passes : (c : tie.After-enum-told) → let s = at_cap c in first_refusal (byCap s s.args.n) ≡ first_refusal (byHorizon s s.args.n)
-cap_passes c = let s = at_cap c in rest_decides (range 1 4096 s.args.cap ∷ []) (byHorizon s s.args.n) c.before.before.range.ensures c.enum_told.given.1
+cap_passes : (c : tie.In-Fine) → let s = at_cap c in first_refusal (byCap s s.args.n) ≡ first_refusal (byHorizon s s.args.n)
+cap_passes c = let s = at_cap c in rest_decides (range 1 4096 s.args.cap ∷ []) (byHorizon s s.args.n) c.before.before.range-by_cap.ensures c.enum_told-1.given.1
 
 -- ---- the horizon
 
-range-requires-2 : tie.Need-range-requires-2
-range-requires-2 c κs = omega arith
+range-by_horizon-requires : tie.Need-range-by_horizon-requires
+range-by_horizon-requires c κs = omega arith
 
-enum-told-3 : tie.Need-enum-told-3
-enum-told-3 c = omega arith
+enum_told-in-Fine-by_horizon : tie.Need-enum_told-in-Fine-by_horizon
+enum_told-in-Fine-by_horizon c = omega arith
 
-enum-told-4 : tie.Need-enum-told-4
-enum-told-4 c = omega arith
+enum_told-in_default-by_horizon : tie.Need-enum_told-in_default-by_horizon
+enum_told-in_default-by_horizon c = omega arith
 
-returns-2 : tie.Need-returns-2
-returns-2 c l e =
+returns-in_default-by_horizon : tie.Need-returns-in_default-by_horizon
+returns-in_default-by_horizon c l e =
     let k = c.before.before in
     let s = at_cap k.before in
-    refused_first (range 2 4096 s.args.horizon ∷ []) (byBudget s s.args.n) k.range2.ensures c.enum-told4.given.1 ∙ sym (cap_passes k.before) ∙ whole s l e
+    refused_first (range 2 4096 s.args.horizon ∷ []) (byBudget s s.args.n) k.range-by_horizon.ensures c.enum_told-in_default-by_horizon-1.given.1 ∙ sym (cap_passes k.before) ∙ whole s l e
 
 -- it passes
-abbrev at-horizon : tie.After-enum-told3 → tie.Start
+abbrev at-horizon : tie.In-Fine-by_horizon → tie.Start
 at-horizon c = at_cap c.before.before.before
 
-horizon_passes : (c : tie.After-enum-told3) → let s = at-horizon c in first_refusal (byCap s s.args.n) ≡ first_refusal (byBudget s s.args.n)
+horizon_passes : (c : tie.In-Fine-by_horizon) → let s = at-horizon c in first_refusal (byCap s s.args.n) ≡ first_refusal (byBudget s s.args.n)
 horizon_passes c =
     let k = c.before.before in
     let s = at-horizon c in
-    cap_passes k.before ∙ rest_decides (range 2 4096 s.args.horizon ∷ []) (byBudget s s.args.n) k.range2.ensures c.enum-told3.given.1
+    cap_passes k.before ∙ rest_decides (range 2 4096 s.args.horizon ∷ []) (byBudget s s.args.n) k.range-by_horizon.ensures c.enum_told-in-Fine-by_horizon-1.given.1
 
 -- ---- the budget
 
-range-requires-3 : tie.Need-range-requires-3
-range-requires-3 c κs = omega arith
+range-by_budget-requires : tie.Need-range-by_budget-requires
+range-by_budget-requires c κs = omega arith
 
-enum-told-5 : tie.Need-enum-told-5
-enum-told-5 c = omega arith
+enum_told-in-Fine-by_budget : tie.Need-enum_told-in-Fine-by_budget
+enum_told-in-Fine-by_budget c = omega arith
 
-enum-told-6 : tie.Need-enum-told-6
-enum-told-6 c = omega arith
+enum_told-in_default-by_budget : tie.Need-enum_told-in_default-by_budget
+enum_told-in_default-by_budget c = omega arith
 
-returns-3 : tie.Need-returns-3
-returns-3 c l e =
+returns-in_default-by_budget : tie.Need-returns-in_default-by_budget
+returns-in_default-by_budget c l e =
     let k = c.before.before in
     let s = at-horizon k.before in
-    refused_first (range 3 1000000 s.args.budget ∷ []) (byList s s.args.n) k.range3.ensures c.enum-told6.given.1 ∙ sym (horizon_passes k.before) ∙ whole s l e
+    refused_first (range 3 1000000 s.args.budget ∷ []) (byList s s.args.n) k.range-by_budget.ensures c.enum_told-in_default-by_budget-1.given.1 ∙ sym (horizon_passes k.before) ∙ whole s l e
 
 -- it passes
-abbrev at-budget : tie.After-enum-told5 → tie.Start
+abbrev at-budget : tie.In-Fine-by_budget → tie.Start
 at-budget c = at-horizon c.before.before.before
 
-budget_passes : (c : tie.After-enum-told5) → let s = at-budget c in first_refusal (byCap s s.args.n) ≡ first_refusal (byList s s.args.n)
+budget_passes : (c : tie.In-Fine-by_budget) → let s = at-budget c in first_refusal (byCap s s.args.n) ≡ first_refusal (byList s s.args.n)
 budget_passes c =
     let k = c.before.before in
     let s = at-budget c in
-    horizon_passes k.before ∙ rest_decides (range 3 1000000 s.args.budget ∷ []) (byList s s.args.n) k.range3.ensures c.enum-told5.given.1
+    horizon_passes k.before ∙ rest_decides (range 3 1000000 s.args.budget ∷ []) (byList s s.args.n) k.range-by_budget.ensures c.enum_told-in-Fine-by_budget-1.given.1
 
 -- ---- the list, then the table
+
+lent-by_list-requires : tie.Need-lent-by_list-requires
+lent-by_list-requires c κs = omega arith
+
+enum_told-in-Fine-by_list : tie.Need-enum_told-in-Fine-by_list
+enum_told-in-Fine-by_list c = omega arith
+
+enum_told-in_default-by_list : tie.Need-enum_told-in_default-by_list
+enum_told-in_default-by_list c = omega arith
+
+returns-in_default-by_list : tie.Need-returns-in_default-by_list
+returns-in_default-by_list c l e =
+    let k = c.before.before in
+    let s = at-budget k.before in
+    refused_first (lent s.args.n s.args.list ∷ []) (lent 4096 s.args.rows ∷ []) k.lent-by_list.ensures c.enum_told-in_default-by_list-1.given.1 ∙ sym (budget_passes k.before) ∙ whole s l e
 
 lent-requires : tie.Need-lent-requires
 lent-requires c κs = omega arith
 
-enum-told-7 : tie.Need-enum-told-7
-enum-told-7 c = omega arith
-
-enum-told-8 : tie.Need-enum-told-8
-enum-told-8 c = omega arith
-
-returns-4 : tie.Need-returns-4
-returns-4 c l e =
-    let k = c.before.before in
-    let s = at-budget k.before in
-    refused_first (lent s.args.n s.args.list ∷ []) (lent 4096 s.args.rows ∷ []) k.lent.ensures c.enum-told8.given.1 ∙ sym (budget_passes k.before) ∙ whole s l e
-
-lent-requires-2 : tie.Need-lent-requires-2
-lent-requires-2 c κs = omega arith
-
-returns-5 : tie.Need-returns-5
-returns-5 c l e =
+returns : tie.Need-returns
+returns c l e =
     let t = c.before in
     let k = t.before.before in
     let s = at-budget k.before in
-    c.lent2.ensures
-    ∙ sym (budget_passes k.before ∙ rest_decides (lent s.args.n s.args.list ∷ []) (lent 4096 s.args.rows ∷ []) k.lent.ensures t.enum-told7.given.1)
+    c.lent.ensures
+    ∙ sym (budget_passes k.before ∙ rest_decides (lent s.args.n s.args.list ∷ []) (lent 4096 s.args.rows ∷ []) k.lent-by_list.ensures t.enum_told-in-Fine-by_list-1.given.1)
     ∙ whole s l e
 
 pub request_spec : {M : Type 1} → statement M
 request_spec =
     tie.close
     (tie.spec
-    range-requires
-    enum_told
-    enum-told-2
-    returns
-    range-requires-2
-    enum-told-3
-    enum-told-4
-    returns-2
-    range-requires-3
-    enum-told-5
-    enum-told-6
-    returns-3
+    range-by_cap-requires
+    enum_told-1
+    enum_told-in_default
+    returns-in_default
+    range-by_horizon-requires
+    enum_told-in-Fine-by_horizon
+    enum_told-in_default-by_horizon
+    returns-in_default-by_horizon
+    range-by_budget-requires
+    enum_told-in-Fine-by_budget
+    enum_told-in_default-by_budget
+    returns-in_default-by_budget
+    lent-by_list-requires
+    enum_told-in-Fine-by_list
+    enum_told-in_default-by_list
+    returns-in_default-by_list
     lent-requires
-    enum-told-7
-    enum-told-8
-    returns-4
-    lent-requires-2
-    returns-5)
+    returns)

@@ -13,69 +13,69 @@ use Rattle.replay.proofs.Replays.{kind_none, kind_fails, kind_passes}
 use Rattle.replay.proofs.kinds.Statement.{statement}
 use Rattle.replay.proofs.kinds.Tie as tie
 
-abbrev invariant-loop : tie.invariant-loop
-invariant-loop calls n i₀ i = (i ≤ n) × (first_refusal (flat_map (kind_check calls) (up_from 0 i)) ≡ none)
+abbrev invariant-loop-i : tie.invariant-loop-i
+invariant-loop-i calls n i₀ i = (i ≤ n) × (first_refusal (flat_map (kind_check calls) (up_from 0 i)) ≡ none)
 
-abbrev decreases-loop : tie.decreases-loop
-decreases-loop calls n i₀ i = n - i
+abbrev decreases-loop-i : tie.decreases-loop-i
+decreases-loop-i calls n i₀ i = n - i
 
-loop-holds : tie.Need-loop-init invariant-loop decreases-loop
-loop-holds c = (omega arith, kind_none c.args.calls.now)
+loop-i-init : tie.Need-loop-i-init invariant-loop-i decreases-loop-i
+loop-i-init c = (omega arith, kind_none c.args.calls.now)
 
-mul-kind : tie.Need-overflow-mul-kind invariant-loop decreases-loop
-mul-kind c = search rules
+overflow_mul-kind : tie.Need-overflow_mul-kind invariant-loop-i decreases-loop-i
+overflow_mul-kind c = search rules
 
-mul-kind-2 : tie.Need-overflow-mul-kind-2 invariant-loop decreases-loop
-mul-kind-2 c = search rules
+offset_bounds-calls-i : tie.Need-offset_bounds-calls-i invariant-loop-i decreases-loop-i
+offset_bounds-calls-i c = search rules
 
-shared-slice-read-kind : tie.Need-shared-slice-read-kind invariant-loop decreases-loop
-shared-slice-read-kind c = search rules
+bounds-calls-i : tie.Need-bounds-calls-i invariant-loop-i decreases-loop-i
+bounds-calls-i c = search rules
 
-returns : tie.Need-returns invariant-loop decreases-loop
-returns c =
+returns-then-kind-lt1 : tie.Need-returns-then-kind-lt1 invariant-loop-i decreases-loop-i
+returns-then-kind-lt1 c =
     let l = c.before.before.before in
     let a = l.before.args in
-    sym (row_refused (kind_check a.calls.now) l.loop.i a.n _ (omega arith) l.loop.invariant.1 (kind_fails a.calls.now l.loop.i (too_small 6 _ c.if1.true)))
+    sym (row_refused (kind_check a.calls.now) l.loop-i.i a.n _ (omega arith) l.loop-i.invariant.1 (kind_fails a.calls.now l.loop-i.i (too_small 6 _ c.if-kind-lt1.true)))
 
-returns-2 : tie.Need-returns-2 invariant-loop decreases-loop
-returns-2 c =
+returns-then-kind-gt6 : tie.Need-returns-then-kind-gt6 invariant-loop-i decreases-loop-i
+returns-then-kind-gt6 c =
     let e = c.before in
     let l = e.before.before.before in
     let a = l.before.args in
-    sym (row_refused (kind_check a.calls.now) l.loop.i a.n _ (omega arith) l.loop.invariant.1 (kind_fails a.calls.now l.loop.i (too_large 6 _ e.if1.false (omega (arith, c.if2.true)))))
+    sym (row_refused (kind_check a.calls.now) l.loop-i.i a.n _ (omega arith) l.loop-i.invariant.1 (kind_fails a.calls.now l.loop-i.i (too_large 6 _ e.if-kind-lt1.false (omega (arith, c.if-kind-gt6.true)))))
 
-add-i : tie.Need-overflow-add-i invariant-loop decreases-loop
-add-i c = search rules
+overflow_add-i : tie.Need-overflow_add-i invariant-loop-i decreases-loop-i
+overflow_add-i c = search rules
 
-loop-less : tie.Need-loop-smaller invariant-loop decreases-loop
-loop-less c = omega arith
+loop-i-smaller : tie.Need-loop-i-smaller invariant-loop-i decreases-loop-i
+loop-i-smaller c = omega arith
 
-loop-again : tie.Need-loop-preserved invariant-loop decreases-loop
-loop-again c =
+loop-i-preserved : tie.Need-loop-i-preserved invariant-loop-i decreases-loop-i
+loop-i-preserved c =
     let e = c.before in
     let l = e.before.before.before in
     let xs = l.before.args.calls.now in
-    (omega arith, row_next (kind_check xs) l.loop.i l.loop.invariant.1 (kind_passes xs l.loop.i (in_range 6 _ e.if1.false (omega (arith, c.if2.false)))))
+    (omega arith, row_next (kind_check xs) l.loop-i.i l.loop-i.invariant.1 (kind_passes xs l.loop-i.i (in_range 6 _ e.if-kind-lt1.false (omega (arith, c.if-kind-gt6.false)))))
 
-returns-3 : tie.Need-returns-3 invariant-loop decreases-loop
-returns-3 c =
+returns : tie.Need-returns invariant-loop-i decreases-loop-i
+returns c =
     let l = c.before in
     let a = l.before.args in
-    sym (ap (λ k. first_refusal (flat_map (kind_check a.calls.now) (up_from 0 k))) (omega arith) ∙ l.loop.invariant.1)
+    sym (ap (λ k. first_refusal (flat_map (kind_check a.calls.now) (up_from 0 k))) (omega arith) ∙ l.loop-i.invariant.1)
 
 pub kinds_spec : {M : Type 1} → statement M
 kinds_spec =
     tie.close
     (tie.spec
-    invariant-loop
-    decreases-loop
-    loop-holds
-    mul-kind
-    mul-kind-2
-    shared-slice-read-kind
-    returns
-    returns-2
-    add-i
-    loop-less
-    loop-again
-    returns-3)
+    invariant-loop-i
+    decreases-loop-i
+    loop-i-init
+    overflow_mul-kind
+    offset_bounds-calls-i
+    bounds-calls-i
+    returns-then-kind-lt1
+    returns-then-kind-gt6
+    overflow_add-i
+    loop-i-smaller
+    loop-i-preserved
+    returns)

@@ -14,57 +14,57 @@ use Rattle.replay.proofs.Replays.{unfit_kind, unfit_cut, unfit_room, fit}
 use Rattle.replay.proofs.unfit.Statement.{statement}
 use Rattle.replay.proofs.unfit.Tie as tie
 
-kinds-requires : tie.Need-kinds-requires
-kinds-requires c κs = omega arith
+kinds-checked-requires : tie.Need-kinds-checked-requires
+kinds-checked-requires c κs = omega arith
 
-enum_told : tie.Need-enum-told
-enum_told c = search rules
+enum_told-1 : tie.Need-enum_told-1
+enum_told-1 c = search rules
 
-enum-told-2 : tie.Need-enum-told-2
-enum-told-2 c = search rules
+enum_told-in_default : tie.Need-enum_told-in_default
+enum_told-in_default c = search rules
+
+returns-in_default : tie.Need-returns-in_default
+returns-in_default c =
+    let k = c.before.before in
+    let a = k.before.before.args in
+    let e = c.enum_told-in_default-1.given.1 in
+    ap refusal_of e ∙ sym (unfit_kind a.calls.now a.room (sym k.kinds-checked.ensures ∙ ap refusal_of e))
+
+overflow_mul-n : tie.Need-overflow_mul-n
+overflow_mul-n c = omega arith
+
+-- every call has a kind
+known : (c : tie.In-Fine) → let xs = c.before.before.before.before.args.calls.now in first_refusal (flat_map (kind_check xs) (up_from 0 (call_count xs))) ≡ none
+known c = sym c.before.before.kinds-checked.ensures ∙ ap refusal_of c.enum_told-1.given.1
+
+returns-then-n-calls : tie.Need-returns-then-n-calls
+returns-then-n-calls c =
+    let k = c.before in
+    let a = k.before.before.before.before.args in
+    sym (unfit_cut a.calls.now a.room (known k) c.if-n-calls.true)
+
+overflow_mul-n-2 : tie.Need-overflow_mul-n-2
+overflow_mul-n-2 c = omega arith
+
+-- and no number is left over
+whole : (c : tie.Else-n-calls) → let xs = c.before.before.before.before.before.args.calls.now in length xs ≤ 3 * call_count xs
+whole c = omega (arith, c.if-n-calls.false)
+
+returns-then-room-n : tie.Need-returns-then-room-n
+returns-then-room-n c =
+    let e = c.before in
+    let k = e.before in
+    let a = k.before.before.before.before.args in
+    sym (unfit_room a.calls.now a.room (known k) (whole e) (omega (arith, c.if-room-n.true)))
 
 returns : tie.Need-returns
 returns c =
-    let k = c.before.before in
-    let a = k.before.before.args in
-    let e = c.enum-told2.given.1 in
-    ap refusal_of e ∙ sym (unfit_kind a.calls.now a.room (sym k.kinds.ensures ∙ ap refusal_of e))
-
-mul-if1 : tie.Need-overflow-mul-if1
-mul-if1 c = omega arith
-
--- every call has a kind
-known : (c : tie.After-enum-told) → let xs = c.before.before.before.before.args.calls.now in first_refusal (flat_map (kind_check xs) (up_from 0 (call_count xs))) ≡ none
-known c = sym c.before.before.kinds.ensures ∙ ap refusal_of c.enum_told.given.1
-
-returns-2 : tie.Need-returns-2
-returns-2 c =
-    let k = c.before in
-    let a = k.before.before.before.before.args in
-    sym (unfit_cut a.calls.now a.room (known k) c.if1.true)
-
-mul-if2 : tie.Need-overflow-mul-if2
-mul-if2 c = omega arith
-
--- and no number is left over
-whole : (c : tie.Else1) → let xs = c.before.before.before.before.before.args.calls.now in length xs ≤ 3 * call_count xs
-whole c = omega (arith, c.if1.false)
-
-returns-3 : tie.Need-returns-3
-returns-3 c =
     let e = c.before in
     let k = e.before in
     let a = k.before.before.before.before.args in
-    sym (unfit_room a.calls.now a.room (known k) (whole e) (omega (arith, c.if2.true)))
-
-returns-4 : tie.Need-returns-4
-returns-4 c =
-    let e = c.before in
-    let k = e.before in
-    let a = k.before.before.before.before.args in
-    sym (fit a.calls.now a.room (known k) (whole e) (omega (arith, c.if2.false)))
+    sym (fit a.calls.now a.room (known k) (whole e) (omega (arith, c.if-room-n.false)))
 
 pub unfit_spec : {M : Type 1} → statement M
 unfit_spec =
     tie.close
-    (tie.spec kinds-requires enum_told enum-told-2 returns mul-if1 returns-2 mul-if2 returns-3 returns-4)
+    (tie.spec kinds-checked-requires enum_told-1 enum_told-in_default returns-in_default overflow_mul-n returns-then-n-calls overflow_mul-n-2 returns-then-room-n returns)

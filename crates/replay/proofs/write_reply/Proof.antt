@@ -10,75 +10,75 @@ use Rattle.replay.specs.Replay.{reply_words}
 use Rattle.replay.proofs.write_reply.Statement.{statement}
 use Rattle.replay.proofs.write_reply.Tie as tie
 
-enum_told : tie.Need-enum-told
-enum_told c = omega arith
+enum_told-1 : tie.Need-enum_told-1
+enum_told-1 c = omega arith
 
-write-two-requires : tie.Need-write-two-requires
-write-two-requires c κs = omega arith
+write_two-requires : tie.Need-write_two-requires
+write_two-requires c κs = omega arith
 
-enum-known-r : tie.Need-enum-known-r
-enum-known-r c = omega arith
+enum_known-r : tie.Need-enum_known-r
+enum_known-r c = omega arith
 
-write-two-requires-2 : tie.Need-write-two-requires-2
-write-two-requires-2 c κs = omega arith
+write_two-requires-in-Displaced : tie.Need-write_two-requires-in-Displaced
+write_two-requires-in-Displaced c κs = omega arith
 
-enum-known-r-2 : tie.Need-enum-known-r-2
-enum-known-r-2 c = omega arith
+enum_known-r-in-Numbered-1 : tie.Need-enum_known-r-in-Numbered-1
+enum_known-r-in-Numbered-1 c = omega arith
 
-write-two-requires-3 : tie.Need-write-two-requires-3
-write-two-requires-3 c κs = omega arith
+write_two-requires-in-Numbered : tie.Need-write_two-requires-in-Numbered
+write_two-requires-in-Numbered c κs = omega arith
 
-enum-known-r-3 : tie.Need-enum-known-r-3
-enum-known-r-3 c = omega arith
+enum_known-r-in-Refused-1 : tie.Need-enum_known-r-in-Refused-1
+enum_known-r-in-Refused-1 c = omega arith
 
-write-two-requires-4 : tie.Need-write-two-requires-4
-write-two-requires-4 c κs = omega arith
+write_two-requires-in-Refused : tie.Need-write_two-requires-in-Refused
+write_two-requires-in-Refused c κs = omega arith
 
 -- the answer is r: what is written for it
 told : (i : ℕ) (old : List ℕ) {x y : Reply} {new : List ℕ} → x ≡ y → new ≡ written i (reply_words (reply_of y)) old → new ≡ written i (reply_words (reply_of x)) old
 told i old e w = w ∙ ap (λ (r : Reply). written i (reply_words (reply_of r)) old) (sym e)
 
-same_length : tie.Need-same-length
-same_length c = omega arith
+shape_of-replies-in-Done : tie.Need-shape_of-replies-in-Done
+shape_of-replies-in-Done c = omega arith
 
-returns : tie.Need-returns
-returns c = let w = c.before.before in told _ _ w.before.before.enum_told.given.1 w.write_two.ensures
+returns-in-Done : tie.Need-returns-in-Done
+returns-in-Done c = let w = c.before.before in told _ _ w.before.before.enum_told-1.given.1 w.write_two.ensures
 
-same-length-2 : tie.Need-same-length-2
-same-length-2 c = omega arith
+shape_of-replies-in-Displaced : tie.Need-shape_of-replies-in-Displaced
+shape_of-replies-in-Displaced c = omega arith
 
-returns-2 : tie.Need-returns-2
-returns-2 c = let w = c.before.before in told _ _ w.before.before.before.r.given.1 w.write-two2.ensures
+returns-in-Displaced : tie.Need-returns-in-Displaced
+returns-in-Displaced c = let w = c.before.before in told _ _ w.before.before.before.r-1.given.1 w.write_two-in-Displaced.ensures
 
-same-length-3 : tie.Need-same-length-3
-same-length-3 c = omega arith
+shape_of-replies-in-Numbered : tie.Need-shape_of-replies-in-Numbered
+shape_of-replies-in-Numbered c = omega arith
 
-returns-3 : tie.Need-returns-3
-returns-3 c = let w = c.before.before in told _ _ w.before.before.before.r2.given.1 w.write-two3.ensures
+returns-in-Numbered : tie.Need-returns-in-Numbered
+returns-in-Numbered c = let w = c.before.before in told _ _ w.before.before.before.r-in-Numbered-1.given.1 w.write_two-in-Numbered.ensures
 
-same-length-4 : tie.Need-same-length-4
-same-length-4 c = omega arith
+shape_of-replies-in-Refused : tie.Need-shape_of-replies-in-Refused
+shape_of-replies-in-Refused c = omega arith
 
-returns-4 : tie.Need-returns-4
-returns-4 c = let w = c.before.before in told _ _ w.before.before.before.r3.given.1 w.write-two4.ensures
+returns-in-Refused : tie.Need-returns-in-Refused
+returns-in-Refused c = let w = c.before.before in told _ _ w.before.before.before.r-in-Refused-1.given.1 w.write_two-in-Refused.ensures
 
 pub write_reply_spec : {M : Type 1} → statement M
 write_reply_spec =
     tie.close
     (tie.spec
-    enum_told
-    write-two-requires
-    enum-known-r
-    write-two-requires-2
-    enum-known-r-2
-    write-two-requires-3
-    enum-known-r-3
-    write-two-requires-4
-    same_length
-    returns
-    same-length-2
-    returns-2
-    same-length-3
-    returns-3
-    same-length-4
-    returns-4)
+    enum_told-1
+    write_two-requires
+    enum_known-r
+    write_two-requires-in-Displaced
+    enum_known-r-in-Numbered-1
+    write_two-requires-in-Numbered
+    enum_known-r-in-Refused-1
+    write_two-requires-in-Refused
+    shape_of-replies-in-Done
+    returns-in-Done
+    shape_of-replies-in-Displaced
+    returns-in-Displaced
+    shape_of-replies-in-Numbered
+    returns-in-Numbered
+    shape_of-replies-in-Refused
+    returns-in-Refused)

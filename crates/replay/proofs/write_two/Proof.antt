@@ -8,27 +8,27 @@ use Rattle.model.specs.Lists.{written}
 use Rattle.replay.proofs.write_two.Statement.{statement}
 use Rattle.replay.proofs.write_two.Tie as tie
 
-mul-replies : tie.Need-overflow-mul-replies
-mul-replies c = search rules
+offset_bounds-replies-i : tie.Need-offset_bounds-replies-i
+offset_bounds-replies-i c = search rules
 
-slice-write-replies : tie.Need-slice-write-replies
-slice-write-replies c = search rules
+bounds-replies-i : tie.Need-bounds-replies-i
+bounds-replies-i c = search rules
 
-add-replies : tie.Need-overflow-add-replies
-add-replies c = search rules
+overflow_add-replies : tie.Need-overflow_add-replies
+overflow_add-replies c = search rules
 
-mul-replies-2 : tie.Need-overflow-mul-replies-2
-mul-replies-2 c = search rules
+offset_bounds-replies-i-2 : tie.Need-offset_bounds-replies-i-2
+offset_bounds-replies-i-2 c = search rules
 
-slice-write-replies-2 : tie.Need-slice-write-replies-2
-slice-write-replies-2 c = omega (arith, c.requires, length-set c.args.replies.now c.args.i c.args.first)
+bounds-replies-i-2 : tie.Need-bounds-replies-i-2
+bounds-replies-i-2 c = omega (arith, c.requires, length-set c.args.replies.now c.args.i c.args.first)
 
-same_length : tie.Need-same-length
-same_length c = search rules
+shape_of-replies : tie.Need-shape_of-replies
+shape_of-replies c = search rules
 
 returns : tie.Need-returns
 unfolding written
 returns c = ap (λ (k : ℕ). set (set c.args.replies.now c.args.i c.args.first) k c.args.second) (omega arith)
 
 pub write_two_spec : {M : Type 1} → statement M
-write_two_spec = tie.close (tie.spec mul-replies slice-write-replies add-replies mul-replies-2 slice-write-replies-2 same_length returns)
+write_two_spec = tie.close (tie.spec offset_bounds-replies-i bounds-replies-i overflow_add-replies offset_bounds-replies-i-2 bounds-replies-i-2 shape_of-replies returns)

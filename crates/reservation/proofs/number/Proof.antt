@@ -7,27 +7,27 @@ use Rattle.reservation.specs.Place.{place_of, number_in}
 use Rattle.reservation.proofs.number.Statement.{statement}
 use Rattle.reservation.proofs.number.Tie as tie
 
-enum_told : tie.Need-enum-told
-enum_told c = search rules
+enum_told-1 : tie.Need-enum_told-1
+enum_told-1 c = search rules
 
-enum-known-p : tie.Need-enum-known-p
-enum-known-p c = search rules
+enum_known-p : tie.Need-enum_known-p
+enum_known-p c = search rules
 
 -- cycle and slot are small
-small : (c : tie.After-known-told) → let w = c.before.p.given.0 in (w.0 < 16) × (w.1.0 ≤ 24)
-small c = c.before.before.before.requires.small _ _ (ap place_of c.before.p.given.1)
+small : (c : tie.In-Taken) → let w = c.before.p-1.given.0 in (w.0 < 16) × (w.1.0 ≤ 24)
+small c = c.before.before.before.requires.small _ _ (ap place_of c.before.p-1.given.1)
 
-mul-result : tie.Need-overflow-mul-result
-mul-result c = omega (arith, small c)
+overflow_mul-result : tie.Need-overflow_mul-result
+overflow_mul-result c = omega (arith, small c)
 
-add-result : tie.Need-overflow-add-result
-add-result c = omega (arith, small c)
+overflow_add-result : tie.Need-overflow_add-result
+overflow_add-result c = omega (arith, small c)
 
-returns : tie.Need-returns
-returns c = search rules
+returns-in-Free : tie.Need-returns-in-Free
+returns-in-Free c = search rules
 
-returns-2 : tie.Need-returns-2
-returns-2 c = sym (ap number_in c.before.p.given.1)
+returns-in-Taken : tie.Need-returns-in-Taken
+returns-in-Taken c = sym (ap number_in c.before.p-1.given.1)
 
 pub number_spec : {M : Type 1} → statement M
-number_spec = tie.close (tie.spec enum_told enum-known-p mul-result add-result returns returns-2)
+number_spec = tie.close (tie.spec enum_told-1 enum_known-p overflow_mul-result overflow_add-result returns-in-Free returns-in-Taken)

@@ -5,17 +5,17 @@ use Rattle.search.specs.Answer.{as_unbounded}
 use Rattle.search.proofs.unbounded.Statement.{statement}
 use Rattle.search.proofs.unbounded.Tie as tie
 
-enum_told : tie.Need-enum-told
-enum_told c = search rules
+enum_told-1 : tie.Need-enum_told-1
+enum_told-1 c = search rules
 
-enum-known-b : tie.Need-enum-known-b
-enum-known-b c = search rules
+enum_known-b : tie.Need-enum_known-b
+enum_known-b c = search rules
 
-returns : tie.Need-returns
-returns c = search rules
+returns-in-Found : tie.Need-returns-in-Found
+returns-in-Found c = search rules
 
-returns-2 : tie.Need-returns-2
-returns-2 c = sym (ap as_unbounded c.before.b.given.1)
+returns-in-Refused : tie.Need-returns-in-Refused
+returns-in-Refused c = sym (ap as_unbounded c.before.b-1.given.1)
 
 pub unbounded_spec : {M : Type 1} → statement M
-unbounded_spec = tie.close (tie.spec enum_told enum-known-b returns returns-2)
+unbounded_spec = tie.close (tie.spec enum_told-1 enum_known-b returns-in-Found returns-in-Refused)

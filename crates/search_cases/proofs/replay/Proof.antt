@@ -5,55 +5,55 @@ use lib.ListN.{length}
 use Rattle.search_cases.proofs.replay.Statement.{statement}
 use Rattle.search_cases.proofs.replay.Tie as tie
 
-abbrev invariant-loop : tie.invariant-loop
-invariant-loop table at₀ at = Unit
+abbrev invariant-loop-at : tie.invariant-loop-at
+invariant-loop-at table at₀ at = Unit
 
-abbrev decreases-loop : tie.decreases-loop
-decreases-loop table at₀ at = length table - at
+abbrev decreases-loop-at : tie.decreases-loop-at
+decreases-loop-at table at₀ at = length table - at
 
-loop-holds : tie.Need-loop-init invariant-loop decreases-loop
-loop-holds c = tt
+loop-at-init : tie.Need-loop-at-init invariant-loop-at decreases-loop-at
+loop-at-init c = tt
 
-find-requires : tie.Need-find-requires invariant-loop decreases-loop
-find-requires c κs = omega arith
+find-end-requires : tie.Need-find-end-requires invariant-loop-at decreases-loop-at
+find-end-requires c κs = omega arith
 
-sub-replay-line : tie.Need-overflow-sub-replay-line invariant-loop decreases-loop
-sub-replay-line c = omega arith
+slice_bounds-replay_line-count : tie.Need-slice_bounds-replay_line-count invariant-loop-at decreases-loop-at
+slice_bounds-replay_line-count c = omega arith
 
-part-replay-line-start : tie.Need-slice-bounds-replay-line-start invariant-loop decreases-loop
-part-replay-line-start c = omega arith
+slice_bounds-replay_line-start : tie.Need-slice_bounds-replay_line-start invariant-loop-at decreases-loop-at
+slice_bounds-replay_line-start c = omega arith
 
-part-replay-line-end : tie.Need-slice-bounds-replay-line-end invariant-loop decreases-loop
-part-replay-line-end c = omega arith
+slice_bounds-replay_line-end : tie.Need-slice_bounds-replay_line-end invariant-loop-at decreases-loop-at
+slice_bounds-replay_line-end c = omega arith
 
-replay-line-requires : tie.Need-replay-line-requires invariant-loop decreases-loop
-replay-line-requires c κs = tt
+replay_line-requires : tie.Need-replay_line-requires invariant-loop-at decreases-loop-at
+replay_line-requires c κs = tt
 
-add_at : tie.Need-overflow-add-at invariant-loop decreases-loop
-add_at c = omega arith
+overflow_add-at : tie.Need-overflow_add-at invariant-loop-at decreases-loop-at
+overflow_add-at c = omega arith
 
-loop-less : tie.Need-loop-smaller invariant-loop decreases-loop
-loop-less c = omega arith
+loop-at-smaller : tie.Need-loop-at-smaller invariant-loop-at decreases-loop-at
+loop-at-smaller c = omega arith
 
-loop-again : tie.Need-loop-preserved invariant-loop decreases-loop
-loop-again c = tt
+loop-at-preserved : tie.Need-loop-at-preserved invariant-loop-at decreases-loop-at
+loop-at-preserved c = tt
 
-returns : tie.Need-returns invariant-loop decreases-loop
+returns : tie.Need-returns invariant-loop-at decreases-loop-at
 returns c = tt
 
 pub replay_spec : {M : Type 1} → statement M
 replay_spec =
     tie.close
     (tie.spec
-    invariant-loop
-    decreases-loop
-    loop-holds
-    find-requires
-    sub-replay-line
-    part-replay-line-start
-    part-replay-line-end
-    replay-line-requires
-    add_at
-    loop-less
-    loop-again
+    invariant-loop-at
+    decreases-loop-at
+    loop-at-init
+    find-end-requires
+    slice_bounds-replay_line-count
+    slice_bounds-replay_line-start
+    slice_bounds-replay_line-end
+    replay_line-requires
+    overflow_add-at
+    loop-at-smaller
+    loop-at-preserved
     returns)

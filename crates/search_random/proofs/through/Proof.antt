@@ -3,31 +3,31 @@ use Rattle.std.proofs.Common.{◌-◌, arith}
 use Rattle.search_random.proofs.through.Statement.{statement}
 use Rattle.search_random.proofs.through.Tie as tie
 
-abbrev invariant-loop : tie.invariant-loop
-invariant-loop from to out₀ i₀ out i = Unit
+abbrev invariant-loop-i : tie.invariant-loop-i
+invariant-loop-i from to out₀ i₀ out i = Unit
 
-abbrev decreases-loop : tie.decreases-loop
-decreases-loop from to out₀ i₀ out i = to - i
+abbrev decreases-loop-i : tie.decreases-loop-i
+decreases-loop-i from to out₀ i₀ out i = to - i
 
-loop-holds : tie.Need-loop-init invariant-loop decreases-loop
-loop-holds c = tt
+loop-i-init : tie.Need-loop-i-init invariant-loop-i decreases-loop-i
+loop-i-init c = tt
 
-with-requires : tie.Need-with-requires invariant-loop decreases-loop
-with-requires c κs = tt
+with-out-requires : tie.Need-with-out-requires invariant-loop-i decreases-loop-i
+with-out-requires c κs = tt
 
-add-i : tie.Need-overflow-add-i invariant-loop decreases-loop
-add-i c = omega arith
+overflow_add-i : tie.Need-overflow_add-i invariant-loop-i decreases-loop-i
+overflow_add-i c = omega arith
 
-loop-less : tie.Need-loop-smaller invariant-loop decreases-loop
-loop-less c = omega arith
+loop-i-smaller : tie.Need-loop-i-smaller invariant-loop-i decreases-loop-i
+loop-i-smaller c = omega arith
 
-loop-again : tie.Need-loop-preserved invariant-loop decreases-loop
-loop-again c = tt
+loop-i-preserved : tie.Need-loop-i-preserved invariant-loop-i decreases-loop-i
+loop-i-preserved c = tt
 
-returns : tie.Need-returns invariant-loop decreases-loop
+returns : tie.Need-returns invariant-loop-i decreases-loop-i
 returns c = tt
 
 pub through_spec : {M : Type 1} → statement M
 through_spec =
     tie.close
-    (tie.spec invariant-loop decreases-loop loop-holds with-requires add-i loop-less loop-again returns)
+    (tie.spec invariant-loop-i decreases-loop-i loop-i-init with-out-requires overflow_add-i loop-i-smaller loop-i-preserved returns)

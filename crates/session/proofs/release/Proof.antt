@@ -4,14 +4,14 @@ use Rattle.session.proofs.Steps.{none_open, stepped_release}
 use Rattle.session.proofs.release.Statement.{statement}
 use Rattle.session.proofs.release.Tie as tie
 
+returns-then-n-eq0 : tie.Need-returns-then-n-eq0
+returns-then-n-eq0 c = let s = c.before in none_open s.args.s s.args.rows.now s.requires c.if-n-eq0.true
+
+overflow_sub-t : tie.Need-overflow_sub-t
+overflow_sub-t c = search rules
+
 returns : tie.Need-returns
-returns c = let s = c.before in none_open s.args.s s.args.rows.now s.requires c.if1.true
-
-sub-t : tie.Need-overflow-sub-t
-sub-t c = search rules
-
-returns-2 : tie.Need-returns-2
-returns-2 c = let s = c.before in stepped_release s.args.s s.args.rows.now s.requires c.if1.false
+returns c = let s = c.before in stepped_release s.args.s s.args.rows.now s.requires c.if-n-eq0.false
 
 pub release_spec : {M : Type 1} → statement M
-release_spec = tie.close (tie.spec returns sub-t returns-2)
+release_spec = tie.close (tie.spec returns-then-n-eq0 overflow_sub-t returns)

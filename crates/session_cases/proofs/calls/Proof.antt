@@ -7,71 +7,71 @@ use Rattle.session.specs.View.{Valid}
 use Rattle.session_cases.proofs.calls.Statement.{statement}
 use Rattle.session_cases.proofs.calls.Tie as tie
 
-abbrev invariant-loop : tie.invariant-loop
-invariant-loop table rows₀ t₀ at₀ rows t at = Valid t rows × (length rows ≡ length rows₀)
+abbrev invariant-loop-at : tie.invariant-loop-at
+invariant-loop-at table rows₀ t₀ at₀ rows t at = Valid t rows × (length rows ≡ length rows₀)
 
-abbrev decreases-loop : tie.decreases-loop
-decreases-loop table rows₀ t₀ at₀ rows t at = length table - at
+abbrev decreases-loop-at : tie.decreases-loop-at
+decreases-loop-at table rows₀ t₀ at₀ rows t at = length table - at
 
-loop-holds : tie.Need-loop-init invariant-loop decreases-loop
-loop-holds c = (c.before.before.requires, refl)
+loop-at-init : tie.Need-loop-at-init invariant-loop-at decreases-loop-at
+loop-at-init c = (c.before.before.requires, refl)
 
-find-requires : tie.Need-find-requires invariant-loop decreases-loop
-find-requires c κs = omega arith
+find-end-requires : tie.Need-find-end-requires invariant-loop-at decreases-loop-at
+find-end-requires c κs = omega arith
 
-sub-read-call : tie.Need-overflow-sub-read-call invariant-loop decreases-loop
-sub-read-call c = omega arith
+slice_bounds-read_call-count : tie.Need-slice_bounds-read_call-count invariant-loop-at decreases-loop-at
+slice_bounds-read_call-count c = omega arith
 
-part-read-call-start : tie.Need-slice-bounds-read-call-start invariant-loop decreases-loop
-part-read-call-start c = omega arith
+slice_bounds-read_call-start : tie.Need-slice_bounds-read_call-start invariant-loop-at decreases-loop-at
+slice_bounds-read_call-start c = omega arith
 
-part-read-call-end : tie.Need-slice-bounds-read-call-end invariant-loop decreases-loop
-part-read-call-end c = omega arith
+slice_bounds-read_call-end : tie.Need-slice_bounds-read_call-end invariant-loop-at decreases-loop-at
+slice_bounds-read_call-end c = omega arith
 
-read-call-requires : tie.Need-read-call-requires invariant-loop decreases-loop
-read-call-requires c κs = tt
+read_call-c-requires : tie.Need-read_call-c-requires invariant-loop-at decreases-loop-at
+read_call-c-requires c κs = tt
 
-same_length : tie.Need-same-length invariant-loop decreases-loop
-same_length c = omega arith
+shape_of-rows-then-c-eq0 : tie.Need-shape_of-rows-then-c-eq0 invariant-loop-at decreases-loop-at
+shape_of-rows-then-c-eq0 c = omega arith
 
-returns : tie.Need-returns invariant-loop decreases-loop
+returns-then-c-eq0 : tie.Need-returns-then-c-eq0 invariant-loop-at decreases-loop-at
+returns-then-c-eq0 c = tt
+
+made-t-requires : tie.Need-made-t-requires invariant-loop-at decreases-loop-at
+made-t-requires c κs = c.before.before.before.before.before.before.before.loop-at.invariant.0
+
+overflow_add-at : tie.Need-overflow_add-at invariant-loop-at decreases-loop-at
+overflow_add-at c = omega arith
+
+loop-at-smaller : tie.Need-loop-at-smaller invariant-loop-at decreases-loop-at
+loop-at-smaller c = omega arith
+
+loop-at-preserved : tie.Need-loop-at-preserved invariant-loop-at decreases-loop-at
+loop-at-preserved c = (c.before.before.made-t.ensures, omega arith)
+
+shape_of-rows : tie.Need-shape_of-rows invariant-loop-at decreases-loop-at
+shape_of-rows c = omega arith
+
+returns : tie.Need-returns invariant-loop-at decreases-loop-at
 returns c = tt
-
-made-requires : tie.Need-made-requires invariant-loop decreases-loop
-made-requires c κs = c.before.before.before.before.before.before.before.loop.invariant.0
-
-add_at : tie.Need-overflow-add-at invariant-loop decreases-loop
-add_at c = omega arith
-
-loop-less : tie.Need-loop-smaller invariant-loop decreases-loop
-loop-less c = omega arith
-
-loop-again : tie.Need-loop-preserved invariant-loop decreases-loop
-loop-again c = (c.before.before.made.ensures, omega arith)
-
-same-length-2 : tie.Need-same-length-2 invariant-loop decreases-loop
-same-length-2 c = omega arith
-
-returns-2 : tie.Need-returns-2 invariant-loop decreases-loop
-returns-2 c = tt
 
 pub calls_spec : {M : Type 1} → statement M
 calls_spec =
     tie.close
     (tie.spec
-    invariant-loop
-    decreases-loop
-    loop-holds
-    find-requires
-    sub-read-call
-    part-read-call-start
-    part-read-call-end
-    read-call-requires
-    same_length
-    returns
-    made-requires
-    add_at
-    loop-less
-    loop-again
-    same-length-2
-    returns-2)
+    invariant-loop-at
+    decreases-loop-at
+    loop-at-init
+    find-end-requires
+    slice_bounds-read_call-count
+    slice_bounds-read_call-start
+    slice_bounds-read_call-end
+    read_call-c-requires
+    shape_of-rows-then-c-eq0
+    returns-then-c-eq0
+    made-t-requires
+    overflow_add-at
+    loop-at-smaller
+    loop-at-preserved
+    shape_of-rows
+    returns)

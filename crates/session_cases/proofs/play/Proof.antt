@@ -5,46 +5,46 @@ use Rattle.session.specs.View.{setup_of, opening_of}
 use Rattle.session_cases.proofs.play.Statement.{statement}
 use Rattle.session_cases.proofs.play.Tie as tie
 
-open-requires : tie.Need-open-requires
-open-requires c κs = tt
+open-o-requires : tie.Need-open-o-requires
+open-o-requires c κs = tt
 
-enum_told : tie.Need-enum-told
-enum_told c = omega arith
+enum_told-1 : tie.Need-enum_told-1
+enum_told-1 c = omega arith
 
 begun-requires : tie.Need-begun-requires
 begun-requires c κs =
     let d = c.before in
     let o = d.before.before.before.before.«open» in
-    o.ensures.valid (setup_of o.result.session) (sym o.ensures.says ∙ ap (opening_of o.result.session) d.enum_told.given.1)
+    o.ensures.valid (setup_of o.result.session) (sym o.ensures.says ∙ ap (opening_of o.result.session) d.enum_told-1.given.1)
 
-enum-known-answer : tie.Need-enum-known-answer
-enum-known-answer c = omega arith
+enum_known-answer : tie.Need-enum_known-answer
+enum_known-answer c = omega arith
 
 shut-requires : tie.Need-shut-requires
 shut-requires c κs = tt
 
-same_length : tie.Need-same-length
-same_length c = omega arith
+shape_of-rows-in-Fine : tie.Need-shape_of-rows-in-Fine
+shape_of-rows-in-Fine c = omega arith
 
-returns : tie.Need-returns
-returns c = tt
+returns-in-Fine : tie.Need-returns-in-Fine
+returns-in-Fine c = tt
 
-same-length-2 : tie.Need-same-length-2
-same-length-2 c = omega arith
+shape_of-rows-in-Refused : tie.Need-shape_of-rows-in-Refused
+shape_of-rows-in-Refused c = omega arith
 
-returns-2 : tie.Need-returns-2
-returns-2 c = tt
+returns-in-Refused : tie.Need-returns-in-Refused
+returns-in-Refused c = tt
 
 pub play_spec : {M : Type 1} → statement M
 play_spec =
     tie.close
     (tie.spec
-    open-requires
-    enum_told
+    open-o-requires
+    enum_told-1
     begun-requires
-    enum-known-answer
+    enum_known-answer
     shut-requires
-    same_length
-    returns
-    same-length-2
-    returns-2)
+    shape_of-rows-in-Fine
+    returns-in-Fine
+    shape_of-rows-in-Refused
+    returns-in-Refused)

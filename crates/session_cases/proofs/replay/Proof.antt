@@ -5,83 +5,83 @@ use lib.ListN.{length}
 use Rattle.session_cases.proofs.replay.Statement.{statement}
 use Rattle.session_cases.proofs.replay.Tie as tie
 
-abbrev invariant-loop : tie.invariant-loop
-invariant-loop table at₀ at = Unit
+abbrev invariant-loop-at : tie.invariant-loop-at
+invariant-loop-at table at₀ at = Unit
 
-abbrev decreases-loop : tie.decreases-loop
-decreases-loop table at₀ at = length table - at
+abbrev decreases-loop-at : tie.decreases-loop-at
+decreases-loop-at table at₀ at = length table - at
 
-loop-holds : tie.Need-loop-init invariant-loop decreases-loop
-loop-holds c = tt
+loop-at-init : tie.Need-loop-at-init invariant-loop-at decreases-loop-at
+loop-at-init c = tt
 
-find-requires : tie.Need-find-requires invariant-loop decreases-loop
-find-requires c κs = omega arith
+find-end-requires : tie.Need-find-end-requires invariant-loop-at decreases-loop-at
+find-end-requires c κs = omega arith
 
-sub-read-call : tie.Need-overflow-sub-read-call invariant-loop decreases-loop
-sub-read-call c = omega arith
+slice_bounds-read_call-count : tie.Need-slice_bounds-read_call-count invariant-loop-at decreases-loop-at
+slice_bounds-read_call-count c = omega arith
 
-part-read-call-start : tie.Need-slice-bounds-read-call-start invariant-loop decreases-loop
-part-read-call-start c = omega arith
+slice_bounds-read_call-start : tie.Need-slice_bounds-read_call-start invariant-loop-at decreases-loop-at
+slice_bounds-read_call-start c = omega arith
 
-part-read-call-end : tie.Need-slice-bounds-read-call-end invariant-loop decreases-loop
-part-read-call-end c = omega arith
+slice_bounds-read_call-end : tie.Need-slice_bounds-read_call-end invariant-loop-at decreases-loop-at
+slice_bounds-read_call-end c = omega arith
 
-read-call-requires : tie.Need-read-call-requires invariant-loop decreases-loop
-read-call-requires c κs = tt
+read_call-c-requires : tie.Need-read_call-c-requires invariant-loop-at decreases-loop-at
+read_call-c-requires c κs = tt
 
-sub-scene : tie.Need-overflow-sub-scene invariant-loop decreases-loop
-sub-scene c = omega arith
+slice_bounds-scene-count : tie.Need-slice_bounds-scene-count invariant-loop-at decreases-loop-at
+slice_bounds-scene-count c = omega arith
 
-part-scene-start : tie.Need-slice-bounds-scene-start invariant-loop decreases-loop
-part-scene-start c = omega arith
+slice_bounds-scene-start : tie.Need-slice_bounds-scene-start invariant-loop-at decreases-loop-at
+slice_bounds-scene-start c = omega arith
 
-part-scene-end : tie.Need-slice-bounds-scene-end invariant-loop decreases-loop
-part-scene-end c = omega arith
+slice_bounds-scene-end : tie.Need-slice_bounds-scene-end invariant-loop-at decreases-loop-at
+slice_bounds-scene-end c = omega arith
 
-sub-scene-2 : tie.Need-overflow-sub-scene-2 invariant-loop decreases-loop
-sub-scene-2 c = omega arith
+slice_bounds-scene-count-then-c-eq0 : tie.Need-slice_bounds-scene-count-then-c-eq0 invariant-loop-at decreases-loop-at
+slice_bounds-scene-count-then-c-eq0 c = omega arith
 
-part-scene-start-2 : tie.Need-slice-bounds-scene-start-2 invariant-loop decreases-loop
-part-scene-start-2 c = omega arith
+slice_bounds-scene-start-then-c-eq0 : tie.Need-slice_bounds-scene-start-then-c-eq0 invariant-loop-at decreases-loop-at
+slice_bounds-scene-start-then-c-eq0 c = omega arith
 
-part-scene-end-2 : tie.Need-slice-bounds-scene-end-2 invariant-loop decreases-loop
-part-scene-end-2 c = omega arith
+slice_bounds-scene-end-then-c-eq0 : tie.Need-slice_bounds-scene-end-then-c-eq0 invariant-loop-at decreases-loop-at
+slice_bounds-scene-end-then-c-eq0 c = omega arith
 
-scene-requires : tie.Need-scene-requires invariant-loop decreases-loop
+scene-requires : tie.Need-scene-requires invariant-loop-at decreases-loop-at
 scene-requires c κs = tt
 
-add_at : tie.Need-overflow-add-at invariant-loop decreases-loop
-add_at c = omega arith
+overflow_add-at : tie.Need-overflow_add-at invariant-loop-at decreases-loop-at
+overflow_add-at c = omega arith
 
-loop-less : tie.Need-loop-smaller invariant-loop decreases-loop
-loop-less c = omega arith
+loop-at-smaller : tie.Need-loop-at-smaller invariant-loop-at decreases-loop-at
+loop-at-smaller c = omega arith
 
-loop-again : tie.Need-loop-preserved invariant-loop decreases-loop
-loop-again c = tt
+loop-at-preserved : tie.Need-loop-at-preserved invariant-loop-at decreases-loop-at
+loop-at-preserved c = tt
 
-returns : tie.Need-returns invariant-loop decreases-loop
+returns : tie.Need-returns invariant-loop-at decreases-loop-at
 returns c = tt
 
 pub replay_spec : {M : Type 1} → statement M
 replay_spec =
     tie.close
     (tie.spec
-    invariant-loop
-    decreases-loop
-    loop-holds
-    find-requires
-    sub-read-call
-    part-read-call-start
-    part-read-call-end
-    read-call-requires
-    sub-scene
-    part-scene-start
-    part-scene-end
-    sub-scene-2
-    part-scene-start-2
-    part-scene-end-2
+    invariant-loop-at
+    decreases-loop-at
+    loop-at-init
+    find-end-requires
+    slice_bounds-read_call-count
+    slice_bounds-read_call-start
+    slice_bounds-read_call-end
+    read_call-c-requires
+    slice_bounds-scene-count
+    slice_bounds-scene-start
+    slice_bounds-scene-end
+    slice_bounds-scene-count-then-c-eq0
+    slice_bounds-scene-start-then-c-eq0
+    slice_bounds-scene-end-then-c-eq0
     scene-requires
-    add_at
-    loop-less
-    loop-again
+    overflow_add-at
+    loop-at-smaller
+    loop-at-preserved
     returns)

@@ -3,59 +3,59 @@ use Rattle.std.proofs.Common.{◌-◌, arith}
 use Rattle.session_random.proofs.main.Statement.{statement}
 use Rattle.session_random.proofs.main.Tie as tie
 
-abbrev invariant-loop : tie.invariant-loop
-invariant-loop t₀ lists₀ t lists = Unit
+abbrev invariant-loop-lists : tie.invariant-loop-lists
+invariant-loop-lists t₀ lists₀ t lists = Unit
 
-abbrev decreases-loop : tie.decreases-loop
-decreases-loop t₀ lists₀ t lists = 100 - lists
+abbrev decreases-loop-lists : tie.decreases-loop-lists
+decreases-loop-lists t₀ lists₀ t lists = 100 - lists
 
-nothing-requires : tie.Need-nothing-requires invariant-loop decreases-loop
-nothing-requires c κs = tt
+nothing-t-requires : tie.Need-nothing-t-requires invariant-loop-lists decreases-loop-lists
+nothing-t-requires c κs = tt
 
-loop-holds : tie.Need-loop-init invariant-loop decreases-loop
-loop-holds c = tt
+loop-lists-init : tie.Need-loop-lists-init invariant-loop-lists decreases-loop-lists
+loop-lists-init c = tt
 
-with-list-requires : tie.Need-with-list-requires invariant-loop decreases-loop
-with-list-requires c κs = tt
+with_list-t-requires : tie.Need-with_list-t-requires invariant-loop-lists decreases-loop-lists
+with_list-t-requires c κs = tt
 
-add-lists : tie.Need-overflow-add-lists invariant-loop decreases-loop
-add-lists c = omega arith
+overflow_add-lists : tie.Need-overflow_add-lists invariant-loop-lists decreases-loop-lists
+overflow_add-lists c = omega arith
 
-print-requires : tie.Need-print-requires invariant-loop decreases-loop
+print-requires : tie.Need-print-requires invariant-loop-lists decreases-loop-lists
 print-requires c κs = tt
 
-loop-less : tie.Need-loop-smaller invariant-loop decreases-loop
-loop-less c = omega arith
+loop-lists-smaller-then-lists-eq0 : tie.Need-loop-lists-smaller-then-lists-eq0 invariant-loop-lists decreases-loop-lists
+loop-lists-smaller-then-lists-eq0 c = omega arith
 
-loop-again : tie.Need-loop-preserved invariant-loop decreases-loop
-loop-again c = tt
+loop-lists-preserved-then-lists-eq0 : tie.Need-loop-lists-preserved-then-lists-eq0 invariant-loop-lists decreases-loop-lists
+loop-lists-preserved-then-lists-eq0 c = tt
 
-loop-less-2 : tie.Need-loop-smaller-2 invariant-loop decreases-loop
-loop-less-2 c = omega arith
+loop-lists-smaller : tie.Need-loop-lists-smaller invariant-loop-lists decreases-loop-lists
+loop-lists-smaller c = omega arith
 
-loop-again-2 : tie.Need-loop-preserved-2 invariant-loop decreases-loop
-loop-again-2 c = tt
+loop-lists-preserved : tie.Need-loop-lists-preserved invariant-loop-lists decreases-loop-lists
+loop-lists-preserved c = tt
 
-print-all-requires : tie.Need-print-all-requires invariant-loop decreases-loop
-print-all-requires c κs = tt
+print_all-requires : tie.Need-print_all-requires invariant-loop-lists decreases-loop-lists
+print_all-requires c κs = tt
 
-returns : tie.Need-returns invariant-loop decreases-loop
+returns : tie.Need-returns invariant-loop-lists decreases-loop-lists
 returns c = tt
 
 pub main_spec : {M : Type 1} → statement M
 main_spec =
     tie.close
     (tie.spec
-    invariant-loop
-    decreases-loop
-    nothing-requires
-    loop-holds
-    with-list-requires
-    add-lists
+    invariant-loop-lists
+    decreases-loop-lists
+    nothing-t-requires
+    loop-lists-init
+    with_list-t-requires
+    overflow_add-lists
     print-requires
-    loop-less
-    loop-again
-    loop-less-2
-    loop-again-2
-    print-all-requires
+    loop-lists-smaller-then-lists-eq0
+    loop-lists-preserved-then-lists-eq0
+    loop-lists-smaller
+    loop-lists-preserved
+    print_all-requires
     returns)

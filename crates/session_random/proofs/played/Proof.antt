@@ -4,62 +4,62 @@ use Rattle.session.specs.View.{setup_of, opening_of}
 use Rattle.session_random.proofs.played.Statement.{statement}
 use Rattle.session_random.proofs.played.Tie as tie
 
-cast-open : tie.Need-overflow-cast-open
-cast-open c = search rules
+overflow_cast-d : tie.Need-overflow_cast-d
+overflow_cast-d c = search rules
 
-cast-open-2 : tie.Need-overflow-cast-open-2
-cast-open-2 c = search rules
+overflow_cast-d-2 : tie.Need-overflow_cast-d-2
+overflow_cast-d-2 c = search rules
 
-slice-aggregate-open : tie.Need-slice-aggregate-open
-slice-aggregate-open c = search rules
+slice_bounds-open-end : tie.Need-slice_bounds-open-end
+slice_bounds-open-end c = search rules
 
-open-requires : tie.Need-open-requires
-open-requires c κs = search rules
+open-o-requires : tie.Need-open-o-requires
+open-o-requires c κs = search rules
 
-enum_told : tie.Need-enum-told
-enum_told c = search rules
+enum_told-1 : tie.Need-enum_told-1
+enum_told-1 c = search rules
 
-enum-told-2 : tie.Need-enum-told-2
-enum-told-2 c = search rules
+enum_told-in_default : tie.Need-enum_told-in_default
+enum_told-in_default c = search rules
 
-with-opening-requires : tie.Need-with-opening-requires
-with-opening-requires c κs = search rules
+with_opening-requires : tie.Need-with_opening-requires
+with_opening-requires c κs = search rules
+
+returns-in_default : tie.Need-returns-in_default
+returns-in_default c = search rules
+
+empty-book-requires : tie.Need-empty-book-requires
+empty-book-requires c κs = search rules
+
+same_state-requires : tie.Need-same_state-requires
+same_state-requires c κs = search rules
+
+with_opening-tally-requires : tie.Need-with_opening-tally-requires
+with_opening-tally-requires c κs = search rules
+
+all_turns-q-requires : tie.Need-all_turns-q-requires
+all_turns-q-requires c κs =
+    let d = c.before.before.before.before.before.before in
+    let o = d.before.before.before.«open» in
+    o.ensures.valid (setup_of o.result-1.session) (sym o.ensures.says ∙ ap (opening_of o.result-1.session) d.enum_told-1.given.1)
 
 returns : tie.Need-returns
 returns c = search rules
-
-empty-requires : tie.Need-empty-requires
-empty-requires c κs = search rules
-
-same-state-requires : tie.Need-same-state-requires
-same-state-requires c κs = search rules
-
-with-opening-requires-2 : tie.Need-with-opening-requires-2
-with-opening-requires-2 c κs = search rules
-
-all-turns-requires : tie.Need-all-turns-requires
-all-turns-requires c κs =
-    let d = c.before.before.before.before.before.before in
-    let o = d.before.before.before.«open» in
-    o.ensures.valid (setup_of o.result.session) (sym o.ensures.says ∙ ap (opening_of o.result.session) d.enum_told.given.1)
-
-returns-2 : tie.Need-returns-2
-returns-2 c = search rules
 
 pub played_spec : {M : Type 1} → statement M
 played_spec =
     tie.close
     (tie.spec
-    cast-open
-    cast-open-2
-    slice-aggregate-open
-    open-requires
-    enum_told
-    enum-told-2
-    with-opening-requires
-    returns
-    empty-requires
-    same-state-requires
-    with-opening-requires-2
-    all-turns-requires
-    returns-2)
+    overflow_cast-d
+    overflow_cast-d-2
+    slice_bounds-open-end
+    open-o-requires
+    enum_told-1
+    enum_told-in_default
+    with_opening-requires
+    returns-in_default
+    empty-book-requires
+    same_state-requires
+    with_opening-tally-requires
+    all_turns-q-requires
+    returns)

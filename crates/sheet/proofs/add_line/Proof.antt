@@ -4,19 +4,19 @@ use Rattle.sheet.proofs.Walks.{adds_line}
 use Rattle.sheet.proofs.add_line.Statement.{statement}
 use Rattle.sheet.proofs.add_line.Tie as tie
 
-add-file-requires : tie.Need-add-file-requires
-add-file-requires c κs = search rules
+add_file-added-requires : tie.Need-add_file-added-requires
+add_file-added-requires c κs = search rules
 
-write-line-requires : tie.Need-write-line-requires
-write-line-requires c κs = search rules
+write_line-requires : tie.Need-write_line-requires
+write_line-requires c κs = search rules
 
-same_length : tie.Need-same-length
-same_length c = search rules
+shape_of-rows : tie.Need-shape_of-rows
+shape_of-rows c = search rules
 
 returns : tie.Need-returns
 returns c =
-    let w = c.before.before.before.before.before.add-file.ensures in
-    adds_line w c.before.write-line.ensures
+    let w = c.before.before.before.before.before.add_file-added.ensures in
+    adds_line w c.before.write_line.ensures
 
 pub add_line_spec : {M : Type 1} → statement M
-add_line_spec = tie.close (tie.spec add-file-requires write-line-requires same_length returns)
+add_line_spec = tie.close (tie.spec add_file-added-requires write_line-requires shape_of-rows returns)

@@ -4,79 +4,79 @@ use Rattle.sheet.proofs.Sheets.{by_bundle, read_as, by_table, room, by_walk}
 use Rattle.sheet.proofs.total.Statement.{statement}
 use Rattle.sheet.proofs.total.Tie as tie
 
-read-requires : tie.Need-read-requires
-read-requires c κs = search rules
+read-read-requires : tie.Need-read-read-requires
+read-read-requires c κs = search rules
 
-enum-known-read : tie.Need-enum-known-read
-enum-known-read c = search rules
+enum_known-read : tie.Need-enum_known-read
+enum_known-read c = search rules
 
-enum_told : tie.Need-enum-told
-enum_told c = search rules
+enum_told-1 : tie.Need-enum_told-1
+enum_told-1 c = search rules
 
 unread-requires : tie.Need-unread-requires
 unread-requires c κs = search rules
 
-returns : tie.Need-returns
-returns c = by_bundle _ _ _ _ c.before.before.before.read.ensures c.before.enum_told.given.1 _ c.unread.ensures
+returns-in_default : tie.Need-returns-in_default
+returns-in_default c = by_bundle _ _ _ _ c.before.before.before.read-read.ensures c.before.enum_told-1.given.1 _ c.unread.ensures
 
 -- the reading, from where its number is known
-abbrev reading : tie.After-read2 → tie.After-read
+abbrev reading : tie.In-Files-2 → tie.After-read-read
 reading k = k.before.before
 
-lent-requires : tie.Need-lent-requires
-lent-requires c κs = search rules
+lent-by_rows-requires : tie.Need-lent-by_rows-requires
+lent-by_rows-requires c κs = search rules
 
-enum-told-2 : tie.Need-enum-told-2
-enum-told-2 c = search rules
+enum_told-in-Fine : tie.Need-enum_told-in-Fine
+enum_told-in-Fine c = search rules
 
-enum-told-3 : tie.Need-enum-told-3
-enum-told-3 c = search rules
+enum_told-in_default-by_rows : tie.Need-enum_told-in_default-by_rows
+enum_told-in_default-by_rows c = search rules
 
 refused-requires : tie.Need-refused-requires
 refused-requires c κs = search rules
 
-returns-2 : tie.Need-returns-2
-returns-2 c =
+returns-in_default-by_rows : tie.Need-returns-in_default-by_rows
+returns-in_default-by_rows c =
     let l = c.before.before.before in
     let k = l.before.before in
-    by_table _ _ _ _ (reading k).read.ensures k.read2.given.1 l.lent.ensures c.before.enum-told3.given.1 _ c.refused.ensures
+    by_table _ _ _ _ (reading k).read-read.ensures k.read-1.given.1 l.lent-by_rows.ensures c.before.enum_told-in_default-by_rows-1.given.1 _ c.refused.ensures
 
-walk-requires : tie.Need-walk-requires
-walk-requires c κs =
+walk-sums-requires : tie.Need-walk-sums-requires
+walk-sums-requires c κs =
     let f = c.before.before in
     let l = f.before.before in
     let k = l.before.before in
-    ((read_as _ (reading k).read.ensures k.read2.given.1).1, room _ l.lent.ensures f.enum-told2.given.1)
+    ((read_as _ (reading k).read-read.ensures k.read-1.given.1).1, room _ l.lent-by_rows.ensures f.enum_told-in-Fine-1.given.1)
 
-write-slots-requires : tie.Need-write-slots-requires
-write-slots-requires c κs = search rules
+write_slots-requires : tie.Need-write_slots-requires
+write_slots-requires c κs = search rules
 
-same_length : tie.Need-same-length
-same_length c = search rules
+shape_of-rows : tie.Need-shape_of-rows
+shape_of-rows c = search rules
 
-returns-3 : tie.Need-returns-3
-returns-3 c =
+returns : tie.Need-returns
+returns c =
     let w = c.before.before.before.before in
     let f = w.before.before.before in
     let l = f.before.before in
     let k = l.before.before in
-    by_walk _ _ _ _ (reading k).read.ensures k.read2.given.1 l.lent.ensures f.enum-told2.given.1 w.walk.ensures c.write-slots.ensures
+    by_walk _ _ _ _ (reading k).read-read.ensures k.read-1.given.1 l.lent-by_rows.ensures f.enum_told-in-Fine-1.given.1 w.walk-sums.ensures c.write_slots.ensures
 
 pub total_spec : {M : Type 1} → statement M
 total_spec =
     tie.close
     (tie.spec
-    read-requires
-    enum-known-read
-    enum_told
+    read-read-requires
+    enum_known-read
+    enum_told-1
     unread-requires
-    returns
-    lent-requires
-    enum-told-2
-    enum-told-3
+    returns-in_default
+    lent-by_rows-requires
+    enum_told-in-Fine
+    enum_told-in_default-by_rows
     refused-requires
-    returns-2
-    walk-requires
-    write-slots-requires
-    same_length
-    returns-3)
+    returns-in_default-by_rows
+    walk-sums-requires
+    write_slots-requires
+    shape_of-rows
+    returns)

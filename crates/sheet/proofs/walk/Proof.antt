@@ -9,59 +9,59 @@ use Rattle.sheet.proofs.Walks.{LinesUpto, upto_small, lines_none, lines_next, li
 use Rattle.sheet.proofs.walk.Statement.{statement}
 use Rattle.sheet.proofs.walk.Tie as tie
 
-abbrev invariant-loop : tie.invariant-loop
-invariant-loop bundle n lines₀ rows₀ sums₀ i₀ lines rows sums i = LinesUpto bundle lines₀ rows₀ i sums lines rows
+abbrev invariant-loop-i : tie.invariant-loop-i
+invariant-loop-i bundle n lines₀ rows₀ sums₀ i₀ lines rows sums i = LinesUpto bundle lines₀ rows₀ i sums lines rows
 
-abbrev decreases-loop : tie.decreases-loop
-decreases-loop bundle n lines₀ rows₀ sums₀ i₀ lines rows sums i = n - i
+abbrev decreases-loop-i : tie.decreases-loop-i
+decreases-loop-i bundle n lines₀ rows₀ sums₀ i₀ lines rows sums i = n - i
 
-none-requires : tie.Need-none-requires invariant-loop decreases-loop
-none-requires c κs = omega arith
+none-sums-requires : tie.Need-none-sums-requires invariant-loop-i decreases-loop-i
+none-sums-requires c κs = omega arith
 
-loop-holds : tie.Need-loop-init invariant-loop decreases-loop
-loop-holds c = lines_none _ _ _ _ c.none.ensures
+loop-i-init : tie.Need-loop-i-init invariant-loop-i decreases-loop-i
+loop-i-init c = lines_none _ _ _ _ c.none-sums.ensures
 
-file-requires : tie.Need-file-requires invariant-loop decreases-loop
+file-requires : tie.Need-file-requires invariant-loop-i decreases-loop-i
 file-requires c κs = omega arith
 
-add-line-requires : tie.Need-add-line-requires invariant-loop decreases-loop
-add-line-requires c κs =
-    let l = c.before.before.before.before.loop in
+add_line-sums-requires : tie.Need-add_line-sums-requires invariant-loop-i decreases-loop-i
+add_line-sums-requires c κs =
+    let l = c.before.before.before.before.loop-i in
     let s = c.before.before.before.before.before.before.before.before in
     (omega (arith, few_files s.args.bundle.now, s.requires.0), upto_small _ _ l.invariant.upto (omega (arith, few_files s.args.bundle.now, s.requires.0)))
 
-add-i : tie.Need-overflow-add-i invariant-loop decreases-loop
-add-i c = omega arith
+overflow_add-i : tie.Need-overflow_add-i invariant-loop-i decreases-loop-i
+overflow_add-i c = omega arith
 
-loop-less : tie.Need-loop-smaller invariant-loop decreases-loop
-loop-less c = omega arith
+loop-i-smaller : tie.Need-loop-i-smaller invariant-loop-i decreases-loop-i
+loop-i-smaller c = omega arith
 
-loop-again : tie.Need-loop-preserved invariant-loop decreases-loop
-loop-again c =
-    let l = c.before.before.before.before.before.before.before.loop in
+loop-i-preserved : tie.Need-loop-i-preserved invariant-loop-i decreases-loop-i
+loop-i-preserved c =
+    let l = c.before.before.before.before.before.before.before.loop-i in
     let s = c.before.before.before.before.before.before.before.before.before.before.before in
-    lines_next _ _ _ l.invariant s.requires.1 (omega (arith, s.requires.0)) c.before.before.before.before.before.file.ensures c.before.before.add-line.ensures
+    lines_next _ _ _ l.invariant s.requires.1 (omega (arith, s.requires.0)) c.before.before.before.before.before.file.ensures c.before.before.add_line-sums.ensures
 
-same_length : tie.Need-same-length invariant-loop decreases-loop
-same_length c = omega arith
+shape_of-rows : tie.Need-shape_of-rows invariant-loop-i decreases-loop-i
+shape_of-rows c = omega arith
 
-returns : tie.Need-returns invariant-loop decreases-loop
+returns : tie.Need-returns invariant-loop-i decreases-loop-i
 returns c =
     let s = c.before.before.before.before.before in
-    lines_all _ _ _ c.before.loop.invariant (omega (arith, s.requires.0))
+    lines_all _ _ _ c.before.loop-i.invariant (omega (arith, s.requires.0))
 
 pub walk_spec : {M : Type 1} → statement M
 walk_spec =
     tie.close
     (tie.spec
-    invariant-loop
-    decreases-loop
-    none-requires
-    loop-holds
+    invariant-loop-i
+    decreases-loop-i
+    none-sums-requires
+    loop-i-init
     file-requires
-    add-line-requires
-    add-i
-    loop-less
-    loop-again
-    same_length
+    add_line-sums-requires
+    overflow_add-i
+    loop-i-smaller
+    loop-i-preserved
+    shape_of-rows
     returns)

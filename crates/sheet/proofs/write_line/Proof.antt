@@ -9,47 +9,47 @@ use Rattle.sheet.specs.Lines.{line_of}
 use Rattle.sheet.proofs.write_line.Statement.{statement}
 use Rattle.sheet.proofs.write_line.Tie as tie
 
-enum-known-r : tie.Need-enum-known-r
-enum-known-r c = search rules
+enum_known-r : tie.Need-enum_known-r
+enum_known-r c = search rules
 
-write-numbers-requires : tie.Need-write-numbers-requires
-write-numbers-requires c κs = search rules
+write_numbers-requires : tie.Need-write_numbers-requires
+write_numbers-requires c κs = search rules
 
-enum-known-r-2 : tie.Need-enum-known-r-2
-enum-known-r-2 c = search rules
+enum_known-r-in-Ended-1 : tie.Need-enum_known-r-in-Ended-1
+enum_known-r-in-Ended-1 c = search rules
 
-write-numbers-requires-2 : tie.Need-write-numbers-requires-2
-write-numbers-requires-2 c κs = search rules
+write_numbers-requires-in-Ended : tie.Need-write_numbers-requires-in-Ended
+write_numbers-requires-in-Ended c κs = search rules
 
-enum-known-r-3 : tie.Need-enum-known-r-3
-enum-known-r-3 c = search rules
+enum_known-r-in-Refused-1 : tie.Need-enum_known-r-in-Refused-1
+enum_known-r-in-Refused-1 c = search rules
 
-write-numbers-requires-3 : tie.Need-write-numbers-requires-3
-write-numbers-requires-3 c κs = search rules
+write_numbers-requires-in-Refused : tie.Need-write_numbers-requires-in-Refused
+write_numbers-requires-in-Refused c κs = search rules
 
 -- the answer is r: what is written for it
 told : (i : ℕ) (old : List ℕ) {x y : Searched} {new : List ℕ} → x ≡ y → new ≡ written i (line_of y) old → new ≡ written i (line_of x) old
 told i old e w = w ∙ ap (λ (r : Searched). written i (line_of r) old) (sym e)
 
-returns : tie.Need-returns
-returns c = told _ _ c.before.before.before.r.given.1 c.write-numbers.ensures
+returns-in-Found : tie.Need-returns-in-Found
+returns-in-Found c = told _ _ c.before.before.before.r-1.given.1 c.write_numbers.ensures
 
-returns-2 : tie.Need-returns-2
-returns-2 c = told _ _ c.before.before.before.r2.given.1 c.write-numbers2.ensures
+returns-in-Ended : tie.Need-returns-in-Ended
+returns-in-Ended c = told _ _ c.before.before.before.r-in-Ended-1.given.1 c.write_numbers-in-Ended.ensures
 
-returns-3 : tie.Need-returns-3
-returns-3 c = told _ _ c.before.before.before.r3.given.1 c.write-numbers3.ensures
+returns-in-Refused : tie.Need-returns-in-Refused
+returns-in-Refused c = told _ _ c.before.before.before.r-in-Refused-1.given.1 c.write_numbers-in-Refused.ensures
 
 pub write_line_spec : {M : Type 1} → statement M
 write_line_spec =
     tie.close
     (tie.spec
-    enum-known-r
-    write-numbers-requires
-    enum-known-r-2
-    write-numbers-requires-2
-    enum-known-r-3
-    write-numbers-requires-3
-    returns
-    returns-2
-    returns-3)
+    enum_known-r
+    write_numbers-requires
+    enum_known-r-in-Ended-1
+    write_numbers-requires-in-Ended
+    enum_known-r-in-Refused-1
+    write_numbers-requires-in-Refused
+    returns-in-Found
+    returns-in-Ended
+    returns-in-Refused)

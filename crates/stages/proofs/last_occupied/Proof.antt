@@ -11,50 +11,50 @@ use Rattle.model.proofs.Sums.{max_next}
 use Rattle.stages.proofs.last_occupied.Statement.{statement}
 use Rattle.stages.proofs.last_occupied.Tie as tie
 
-abbrev invariant-loop : tie.invariant-loop
-invariant-loop file starts n most₀ o₀ most o = (o ≤ n) × (most < 65600) × (most ≡ max_of (last_cycle (loop_of file) starts) (up_from 0 o))
+abbrev invariant-loop-o : tie.invariant-loop-o
+invariant-loop-o file starts n most₀ o₀ most o = (o ≤ n) × (most < 65600) × (most ≡ max_of (last_cycle (loop_of file) starts) (up_from 0 o))
 
-abbrev decreases-loop : tie.decreases-loop
-decreases-loop file starts n most₀ o₀ most o = n - o
+abbrev decreases-loop-o : tie.decreases-loop-o
+decreases-loop-o file starts n most₀ o₀ most o = n - o
 
-abbrev start : tie.In-loop invariant-loop decreases-loop → tie.Start invariant-loop decreases-loop
+abbrev start : tie.In-loop-o invariant-loop-o decreases-loop-o → tie.Start invariant-loop-o decreases-loop-o
 start c = c.before.before.before.before.before
 
-op-count-requires : tie.Need-op-count-requires invariant-loop decreases-loop
-op-count-requires c κs = c.before.before.requires
+op_count-n-requires : tie.Need-op_count-n-requires invariant-loop-o decreases-loop-o
+op_count-n-requires c κs = c.before.before.requires
 
-loop-holds : tie.Need-loop-init invariant-loop decreases-loop
+loop-o-init : tie.Need-loop-o-init invariant-loop-o decreases-loop-o
 unfolding max_of up_from
-loop-holds c = omega arith
+loop-o-init c = omega arith
 
-last-cycle-requires : tie.Need-last-cycle-requires invariant-loop decreases-loop
-last-cycle-requires c κs = ((start c).requires, omega (arith, c.before.before.op_count.ensures))
+last_cycle-last-requires : tie.Need-last_cycle-last-requires invariant-loop-o decreases-loop-o
+last_cycle-last-requires c κs = ((start c).requires, omega (arith, c.before.before.op_count-n.ensures))
 
-add-o : tie.Need-overflow-add-o invariant-loop decreases-loop
-add-o c = omega (arith, (start c.before.before).good)
+overflow_add-o : tie.Need-overflow_add-o invariant-loop-o decreases-loop-o
+overflow_add-o c = omega (arith, (start c.before.before).good)
 
-loop-less : tie.Need-loop-smaller invariant-loop decreases-loop
-loop-less c = omega arith
+loop-o-smaller : tie.Need-loop-o-smaller invariant-loop-o decreases-loop-o
+loop-o-smaller c = omega arith
 
 -- one operation more
 further : (f : ℕ → ℕ) (o : ℕ) → max_of f (up_from 0 (o + 1)) ≡ max (max_of f (up_from 0 o)) (f o)
 further f o = let e : 0 + o ≡ o = omega arith in max_next f 0 o ∙ ap (λ (k : ℕ). max (max_of f (up_from 0 o)) (f k)) e
 
-loop-again : tie.Need-loop-preserved invariant-loop decreases-loop
-loop-again c =
+loop-o-preserved : tie.Need-loop-o-preserved invariant-loop-o decreases-loop-o
+loop-o-preserved c =
     let i = c.before.before in
     let a = (start i).args in
-    let e = c.before.last-cycle.ensures in
-    let g = further (last_cycle (loop_of a.file.now) a.starts.now) i.before.loop.o in
-    ⊎_elim (λ w. omega (arith, e.0, e.1, g)) (λ w. omega (arith, e.0, e.1, g)) c.if1.branch
+    let e = c.before.last_cycle-last.ensures in
+    let g = further (last_cycle (loop_of a.file.now) a.starts.now) i.before.loop-o.o in
+    ⊎_elim (λ w. omega (arith, e.0, e.1, g)) (λ w. omega (arith, e.0, e.1, g)) c.if-most-last.branch
 
-returns : tie.Need-returns invariant-loop decreases-loop
+returns : tie.Need-returns invariant-loop-o decreases-loop-o
 unfolding last_occupied
 returns c =
     let a = c.before.before.before.before.before.args in
-    let e = c.before.loop.invariant.2 in
-    (e ∙ ap (λ (k : ℕ). max_of (last_cycle (loop_of a.file.now) a.starts.now) (up_from 0 k)) (omega (arith, c.before.before.op_count.ensures)), c.before.loop.invariant.1)
+    let e = c.before.loop-o.invariant.2 in
+    (e ∙ ap (λ (k : ℕ). max_of (last_cycle (loop_of a.file.now) a.starts.now) (up_from 0 k)) (omega (arith, c.before.before.op_count-n.ensures)), c.before.loop-o.invariant.1)
 
 pub last_occupied_spec : {M : Type 1} → statement M
 last_occupied_spec =
-    tie.close (tie.spec invariant-loop decreases-loop op-count-requires loop-holds last-cycle-requires add-o loop-less loop-again returns)
+    tie.close (tie.spec invariant-loop-o decreases-loop-o op_count-n-requires loop-o-init last_cycle-last-requires overflow_add-o loop-o-smaller loop-o-preserved returns)

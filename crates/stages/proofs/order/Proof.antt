@@ -12,77 +12,77 @@ use Rattle.model.proofs.Lists.{count_yes, count_no}
 use Rattle.stages.proofs.order.Statement.{statement}
 use Rattle.stages.proofs.order.Tie as tie
 
-abbrev invariant-loop : tie.invariant-loop
-invariant-loop interval starts op own n₀ p₀ n p = (p ≤ length starts) × (n ≤ p) × (n ≡ count_if (earlier interval starts op) (up_from 0 p))
+abbrev invariant-loop-p : tie.invariant-loop-p
+invariant-loop-p interval starts op own n₀ p₀ n p = (p ≤ length starts) × (n ≤ p) × (n ≡ count_if (earlier interval starts op) (up_from 0 p))
 
-abbrev decreases-loop : tie.decreases-loop
-decreases-loop interval starts op own n₀ p₀ n p = length starts - p
+abbrev decreases-loop-p : tie.decreases-loop-p
+decreases-loop-p interval starts op own n₀ p₀ n p = length starts - p
 
-abbrev start : tie.In-loop invariant-loop decreases-loop → tie.Start invariant-loop decreases-loop
+abbrev start : tie.In-loop-p invariant-loop-p decreases-loop-p → tie.Start invariant-loop-p decreases-loop-p
 start c = c.before.before.before.before
 
-start-of-requires : tie.Need-start-of-requires invariant-loop decreases-loop
-start-of-requires c κs = search rules
+start_of-own-requires : tie.Need-start_of-own-requires invariant-loop-p decreases-loop-p
+start_of-own-requires c κs = search rules
 
-loop-holds : tie.Need-loop-init invariant-loop decreases-loop
+loop-p-init : tie.Need-loop-p-init invariant-loop-p decreases-loop-p
 unfolding count_if up_from
-loop-holds c = omega arith
+loop-p-init c = omega arith
 
-mul-comes-before : tie.Need-overflow-mul-comes-before invariant-loop decreases-loop
-mul-comes-before c = search rules
+offset_bounds-starts-p : tie.Need-offset_bounds-starts-p invariant-loop-p decreases-loop-p
+offset_bounds-starts-p c = search rules
 
-shared-slice-read-comes-before : tie.Need-shared-slice-read-comes-before invariant-loop decreases-loop
-shared-slice-read-comes-before c = omega arith
+bounds-starts-p : tie.Need-bounds-starts-p invariant-loop-p decreases-loop-p
+bounds-starts-p c = omega arith
 
-cast-comes-before : tie.Need-overflow-cast-comes-before invariant-loop decreases-loop
-cast-comes-before c = omega (arith, c.shared-slice-known2.given c.before.before.loop.p)
+overflow_cast-starts : tie.Need-overflow_cast-starts invariant-loop-p decreases-loop-p
+overflow_cast-starts c = omega (arith, c.shared_slice_known-in-loop-p-1.given c.before.before.loop-p.p)
 
-comes-before-requires : tie.Need-comes-before-requires invariant-loop decreases-loop
-comes-before-requires c κs = search rules
+comes_before-requires : tie.Need-comes_before-requires invariant-loop-p decreases-loop-p
+comes_before-requires c κs = search rules
 
-add-n : tie.Need-overflow-add-n invariant-loop decreases-loop
-add-n c = omega (arith, (start c.before.before.before).good)
+overflow_add-n : tie.Need-overflow_add-n invariant-loop-p decreases-loop-p
+overflow_add-n c = omega (arith, (start c.before.before.before).good)
 
-add-p : tie.Need-overflow-add-p invariant-loop decreases-loop
-add-p c = omega (arith, (start c.before.before.before).good)
+overflow_add-p : tie.Need-overflow_add-p invariant-loop-p decreases-loop-p
+overflow_add-p c = omega (arith, (start c.before.before.before).good)
 
-loop-less : tie.Need-loop-smaller invariant-loop decreases-loop
-loop-less c = omega arith
+loop-p-smaller : tie.Need-loop-p-smaller invariant-loop-p decreases-loop-p
+loop-p-smaller c = omega arith
 
 -- what was told of operation p is whether it comes before
-told : (c : tie.After-comes-before invariant-loop decreases-loop) → let i = c.before.before in let a = (start i).args in earlier a.interval a.starts.now a.op i.before.loop.p ≡ c.comes-before.result
+told : (c : tie.After-comes_before invariant-loop-p decreases-loop-p) → let i = c.before.before in let a = (start i).args in earlier a.interval a.starts.now a.op i.before.loop-p.p ≡ c.comes_before.result
 told c =
     let i = c.before.before in
     let a = (start i).args in
-    sym (c.comes-before.ensures ∙ ap (λ (s : ℕ). comes_before a.interval s a.op (get_or a.starts.now i.before.loop.p 0) i.before.loop.p) i.before.before.start_of_lem.ensures.0)
+    sym (c.comes_before.ensures ∙ ap (λ (s : ℕ). comes_before a.interval s a.op (get_or a.starts.now i.before.loop-p.p 0) i.before.loop-p.p) i.before.before.start_of_lem.ensures.0)
 
-loop-again : tie.Need-loop-preserved invariant-loop decreases-loop
-loop-again c =
+loop-p-preserved : tie.Need-loop-p-preserved invariant-loop-p decreases-loop-p
+loop-p-preserved c =
     let i = c.before.before.before in
     let a = (start i).args in
     let test = earlier a.interval a.starts.now a.op in
-    ⊎_elim (λ w. omega (arith, count_yes test i.before.loop.p (told c.before ∙ w.0.taken))) (λ w. omega (arith, count_no test i.before.loop.p (told c.before ∙ w.0.left))) c.if1.branch
+    ⊎_elim (λ w. omega (arith, count_yes test i.before.loop-p.p (told c.before ∙ w.0.taken))) (λ w. omega (arith, count_no test i.before.loop-p.p (told c.before ∙ w.0.left))) c.if-comes_before.branch
 
-returns : tie.Need-returns invariant-loop decreases-loop
+returns : tie.Need-returns invariant-loop-p decreases-loop-p
 unfolding order_of
 returns c =
     let a = c.before.before.before.before.args in
-    c.before.loop.invariant.2 ∙ ap (λ (k : ℕ). count_if (earlier a.interval a.starts.now a.op) (up_from 0 k)) (omega arith)
+    c.before.loop-p.invariant.2 ∙ ap (λ (k : ℕ). count_if (earlier a.interval a.starts.now a.op) (up_from 0 k)) (omega arith)
 
 pub order_spec : {M : Type 1} → statement M
 order_spec =
     tie.close
     (tie.spec
-    invariant-loop
-    decreases-loop
-    start-of-requires
-    loop-holds
-    mul-comes-before
-    shared-slice-read-comes-before
-    cast-comes-before
-    comes-before-requires
-    add-n
-    add-p
-    loop-less
-    loop-again
+    invariant-loop-p
+    decreases-loop-p
+    start_of-own-requires
+    loop-p-init
+    offset_bounds-starts-p
+    bounds-starts-p
+    overflow_cast-starts
+    comes_before-requires
+    overflow_add-n
+    overflow_add-p
+    loop-p-smaller
+    loop-p-preserved
     returns)

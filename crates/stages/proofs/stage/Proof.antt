@@ -5,14 +5,14 @@ use borrow.Author.Rules.{rules}
 use Rattle.stages.proofs.stage.Statement.{statement}
 use Rattle.stages.proofs.stage.Tie as tie
 
+returns-then-interval-eq0 : tie.Need-returns-then-interval-eq0
+returns-then-interval-eq0 c = rw c.if-interval-eq0.true (sym (div-zero c.before.args.start))
+
+nonzero_div-result : tie.Need-nonzero_div-result
+nonzero_div-result c = search rules
+
 returns : tie.Need-returns
-returns c = rw c.if1.true (sym (div-zero c.before.args.start))
-
-div-result : tie.Need-nonzero-div-result
-div-result c = search rules
-
-returns-2 : tie.Need-returns-2
-returns-2 c = search rules
+returns c = search rules
 
 pub stage_spec : {M : Type 1} → statement M
-stage_spec = tie.close (tie.spec returns div-result returns-2)
+stage_spec = tie.close (tie.spec returns-then-interval-eq0 nonzero_div-result returns)

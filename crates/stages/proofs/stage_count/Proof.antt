@@ -8,18 +8,18 @@ use Rattle.model.specs.Search.{stage, stage_count}
 use Rattle.stages.proofs.stage_count.Statement.{statement}
 use Rattle.stages.proofs.stage_count.Tie as tie
 
-last-occupied-requires : tie.Need-last-occupied-requires
-last-occupied-requires c κs = search rules
+last_occupied-requires : tie.Need-last_occupied-requires
+last_occupied-requires c κs = search rules
 
 stage-requires : tie.Need-stage-requires
 stage-requires c κs = search rules
 
-add-result : tie.Need-overflow-add-result
-add-result c = omega (arith, div-le_self c.before.last-occupied.result c.before.before.before.before.args.interval, c.stage.ensures, c.before.last-occupied.ensures.1)
+overflow_add-result : tie.Need-overflow_add-result
+overflow_add-result c = omega (arith, div-le_self c.before.last_occupied.result c.before.before.before.before.args.interval, c.stage.ensures, c.before.last_occupied.ensures.1)
 
 returns : tie.Need-returns
 unfolding stage_count
-returns c = ap (λ (n : ℕ). n + 1) (c.stage.ensures ∙ ap (stage c.before.before.before.before.args.interval) c.before.last-occupied.ensures.0)
+returns c = ap (λ (n : ℕ). n + 1) (c.stage.ensures ∙ ap (stage c.before.before.before.before.args.interval) c.before.last_occupied.ensures.0)
 
 pub stage_count_spec : {M : Type 1} → statement M
-stage_count_spec = tie.close (tie.spec last-occupied-requires stage-requires add-result returns)
+stage_count_spec = tie.close (tie.spec last_occupied-requires stage-requires overflow_add-result returns)

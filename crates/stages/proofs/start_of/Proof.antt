@@ -6,21 +6,21 @@ use lib.ListN.{get_or-eq_default}
 use Rattle.stages.proofs.start_of.Statement.{statement}
 use Rattle.stages.proofs.start_of.Tie as tie
 
-mul-result : tie.Need-overflow-mul-result
-mul-result c = search rules
+offset_bounds-starts-op : tie.Need-offset_bounds-starts-op
+offset_bounds-starts-op c = search rules
 
-shared-slice-read-result : tie.Need-shared-slice-read-result
-shared-slice-read-result c = search rules
+bounds-starts-op : tie.Need-bounds-starts-op
+bounds-starts-op c = search rules
 
-cast-result : tie.Need-overflow-cast-result
-cast-result c = omega (arith, c.shared-slice-known.given c.before.before.args.op)
+overflow_cast-result : tie.Need-overflow_cast-result
+overflow_cast-result c = omega (arith, c.shared_slice_known-1.given c.before.before.args.op)
+
+returns-then-op-starts : tie.Need-returns-then-op-starts
+returns-then-op-starts c = (refl, omega (arith, c.shared_slice_known-1.given c.before.before.args.op))
 
 returns : tie.Need-returns
-returns c = (refl, omega (arith, c.shared-slice-known.given c.before.before.args.op))
-
-returns-2 : tie.Need-returns-2
-returns-2 c = let a = c.before.args in (sym (get_or-eq_default a.starts.now 0 c.if1.false), omega arith)
+returns c = let a = c.before.args in (sym (get_or-eq_default a.starts.now 0 c.if-op-starts.false), omega arith)
 
 pub start_of_spec : {M : Type 1} → statement M
 start_of_spec =
-    tie.close (tie.spec mul-result shared-slice-read-result cast-result returns returns-2)
+    tie.close (tie.spec offset_bounds-starts-op bounds-starts-op overflow_cast-result returns-then-op-starts returns)

@@ -15,121 +15,121 @@ use Rattle.loop_file.proofs.Answers.{IsAccepted, read_accepted, unread_first}
 use Rattle.verifier.proofs.proposed.Statement.{statement}
 use Rattle.verifier.proofs.proposed.Tie as tie
 
-read-requires : tie.Need-read-requires
-read-requires c κs = omega arith
+read-reading-requires : tie.Need-read-reading-requires
+read-reading-requires c κs = omega arith
 
-enum-known-reading : tie.Need-enum-known-reading
-enum-known-reading c = omega arith
+enum_known-reading : tie.Need-enum_known-reading
+enum_known-reading c = omega arith
 
-enum_told : tie.Need-enum-told
-enum_told c = omega arith
+enum_told-1 : tie.Need-enum_told-1
+enum_told-1 c = omega arith
 
 unread-requires : tie.Need-unread-requires
 unread-requires c κs = omega arith
 
-returns : tie.Need-returns
+returns-in_default : tie.Need-returns-in_default
 unfolding proposed_checks
-returns c =
+returns-in_default c =
     let r = c.before.before.before in
     let a = r.before.before.before.args in
-    ap refusal_of c.unread.ensures ∙ unread_first a.file.now (proposal_checks (loop_of a.file.now) a.interval a.starts.now) r.read.ensures c.before.enum_told.given.1
+    ap refusal_of c.unread.ensures ∙ unread_first a.file.now (proposal_checks (loop_of a.file.now) a.interval a.starts.now) r.read-reading.ensures c.before.enum_told-1.given.1
 
 -- ---- once the file is accepted
 
-abbrev start : tie.After-known-told → tie.Start
+abbrev start : tie.In-Accepted → tie.Start
 start c = c.before.before.before.before.before.before
 
-abbrev file : tie.After-known-told → List ℕ
+abbrev file : tie.In-Accepted → List ℕ
 file c = (start c).args.file.now
 
-known : (c : tie.After-known-told) → let t = c.before.reading.given.0 in IsAccepted (file c) t.0 t.1.0 t.1.1.0
-known c = read_accepted _ _ _ _ (sym (ap reading_of c.before.reading.given.1) ∙ c.before.before.before.read.ensures)
+known : (c : tie.In-Accepted) → let t = c.before.reading-1.given.0 in IsAccepted (file c) t.0 t.1.0 t.1.1.0
+known c = read_accepted _ _ _ _ (sym (ap reading_of c.before.reading-1.given.1) ∙ c.before.before.before.read-reading.ensures)
 
 -- the checks that are left, for n operations: of the list, and before it of the interval
-abbrev byList : tie.After-known-told → ℕ → List Check
+abbrev byList : tie.In-Accepted → ℕ → List Check
 byList c n = let a = (start c).args in lent n (length a.starts.now) ∷ late_start a.starts.now n ∷ []
 
-abbrev byInterval : tie.After-known-told → ℕ → List Check
+abbrev byInterval : tie.In-Accepted → ℕ → List Check
 byInterval c n = range 1 4096 (start c).args.interval ∷ byList c n
 
 -- the number of operations as it was read
-abbrev ops : tie.After-known-told → ℕ
-ops c = c.before.reading.given.0.0
+abbrev ops : tie.In-Accepted → ℕ
+ops c = c.before.reading-1.given.0.0
 
 -- they decide
-accepted_decides : (c : tie.After-known-told) → let a = (start c).args in first_refusal (proposed_checks a.file.now a.interval a.starts.now) ≡ first_refusal (byInterval c (ops c))
+accepted_decides : (c : tie.In-Accepted) → let a = (start c).args in first_refusal (proposed_checks a.file.now a.interval a.starts.now) ≡ first_refusal (byInterval c (ops c))
 unfolding proposed_checks proposal_checks
 accepted_decides c = let a = (start c).args in refusal_append (file_checks (file c)) (proposal_checks (loop_of (file c)) a.interval a.starts.now) (known c).file ∙ ap (λ (n : ℕ). first_refusal (byInterval c n)) (sym (known c).ops_are)
 
-range-requires : tie.Need-range-requires
-range-requires c κs = omega arith
+range-by_interval-requires : tie.Need-range-by_interval-requires
+range-by_interval-requires c κs = omega arith
 
-enum-told-2 : tie.Need-enum-told-2
-enum-told-2 c = omega arith
+enum_told-in-Fine : tie.Need-enum_told-in-Fine
+enum_told-in-Fine c = omega arith
 
-enum-told-3 : tie.Need-enum-told-3
-enum-told-3 c = omega arith
+enum_told-in_default-by_interval : tie.Need-enum_told-in_default-by_interval
+enum_told-in_default-by_interval c = omega arith
 
-returns-2 : tie.Need-returns-2
-returns-2 c =
+returns-in_default-by_interval : tie.Need-returns-in_default-by_interval
+returns-in_default-by_interval c =
     let r = c.before.before in
     let k = r.before in
-    refused_first (range 1 4096 (start k).args.interval ∷ []) (byList k (ops k)) r.range.ensures c.enum-told3.given.1 ∙ sym (accepted_decides k)
+    refused_first (range 1 4096 (start k).args.interval ∷ []) (byList k (ops k)) r.range-by_interval.ensures c.enum_told-in_default-by_interval-1.given.1 ∙ sym (accepted_decides k)
 
 -- ---- once the interval passes
 
-interval_decides : (c : tie.After-enum-told2) → let k = c.before.before.before in
+interval_decides : (c : tie.In-Fine) → let k = c.before.before.before in
     let a = (start k).args in
     first_refusal (proposed_checks a.file.now a.interval a.starts.now) ≡ first_refusal (byList k (ops k))
 interval_decides c =
     let r = c.before.before in
     let k = r.before in
-    accepted_decides k ∙ rest_decides (range 1 4096 (start k).args.interval ∷ []) (byList k (ops k)) r.range.ensures c.enum-told2.given.1
+    accepted_decides k ∙ rest_decides (range 1 4096 (start k).args.interval ∷ []) (byList k (ops k)) r.range-by_interval.ensures c.enum_told-in-Fine-1.given.1
 
-lent-requires : tie.Need-lent-requires
-lent-requires c κs = omega arith
+lent-by_list-requires : tie.Need-lent-by_list-requires
+lent-by_list-requires c κs = omega arith
 
-enum-told-4 : tie.Need-enum-told-4
-enum-told-4 c = omega arith
+enum_told-in-Fine-by_list : tie.Need-enum_told-in-Fine-by_list
+enum_told-in-Fine-by_list c = omega arith
 
-enum-told-5 : tie.Need-enum-told-5
-enum-told-5 c = omega arith
+enum_told-in_default-by_list : tie.Need-enum_told-in_default-by_list
+enum_told-in_default-by_list c = omega arith
 
-returns-3 : tie.Need-returns-3
-returns-3 c =
+returns-in_default-by_list : tie.Need-returns-in_default-by_list
+returns-in_default-by_list c =
     let l = c.before.before in
     let k = l.before.before.before.before in
     let xs = (start k).args.starts.now in
-    refused_first (lent (ops k) (length xs) ∷ []) (late_start xs (ops k) ∷ []) l.lent.ensures c.enum-told5.given.1 ∙ sym (interval_decides l.before)
+    refused_first (lent (ops k) (length xs) ∷ []) (late_start xs (ops k) ∷ []) l.lent-by_list.ensures c.enum_told-in_default-by_list-1.given.1 ∙ sym (interval_decides l.before)
 
 -- ---- once the list is long enough
 
-first-late-requires : tie.Need-first-late-requires
-first-late-requires c κs = let k = c.before.before.before.before.before.before in lent_fine (ops k) (length (start k).args.starts.now) c.before.before.lent.ensures c.enum-told4.given.1
+first_late-requires : tie.Need-first_late-requires
+first_late-requires c κs = let k = c.before.before.before.before.before.before in lent_fine (ops k) (length (start k).args.starts.now) c.before.before.lent-by_list.ensures c.enum_told-in-Fine-by_list-1.given.1
 
-returns-4 : tie.Need-returns-4
-returns-4 c =
+returns : tie.Need-returns
+returns c =
     let l = c.before.before.before in
     let k = l.before.before.before.before in
     let xs = (start k).args.starts.now in
-    c.first-late.ensures ∙ sym (interval_decides l.before ∙ rest_decides (lent (ops k) (length xs) ∷ []) (late_start xs (ops k) ∷ []) l.lent.ensures c.before.enum-told4.given.1)
+    c.first_late.ensures ∙ sym (interval_decides l.before ∙ rest_decides (lent (ops k) (length xs) ∷ []) (late_start xs (ops k) ∷ []) l.lent-by_list.ensures c.before.enum_told-in-Fine-by_list-1.given.1)
 
 pub proposed_spec : {M : Type 1} → statement M
 proposed_spec =
     tie.close
     (tie.spec
-    read-requires
-    enum-known-reading
-    enum_told
+    read-reading-requires
+    enum_known-reading
+    enum_told-1
     unread-requires
-    returns
-    range-requires
-    enum-told-2
-    enum-told-3
-    returns-2
-    lent-requires
-    enum-told-4
-    enum-told-5
-    returns-3
-    first-late-requires
-    returns-4)
+    returns-in_default
+    range-by_interval-requires
+    enum_told-in-Fine
+    enum_told-in_default-by_interval
+    returns-in_default-by_interval
+    lent-by_list-requires
+    enum_told-in-Fine-by_list
+    enum_told-in_default-by_list
+    returns-in_default-by_list
+    first_late-requires
+    returns)

@@ -19,42 +19,42 @@ use Rattle.verifier.proofs.Proposals.{pass_file, pass_asked, by_check, by_walks}
 use Rattle.verifier.proofs.verify.Statement.{statement}
 use Rattle.verifier.proofs.verify.Tie as tie
 
-proposed-requires : tie.Need-proposed-requires
-proposed-requires c κs = omega arith
+proposed-checked-requires : tie.Need-proposed-checked-requires
+proposed-checked-requires c κs = omega arith
 
-enum_told : tie.Need-enum-told
-enum_told c = omega arith
+enum_told-1 : tie.Need-enum_told-1
+enum_told-1 c = omega arith
 
-enum-told-2 : tie.Need-enum-told-2
-enum-told-2 c = omega arith
+enum_told-in_default : tie.Need-enum_told-in_default
+enum_told-in_default c = omega arith
 
 refused-requires : tie.Need-refused-requires
 refused-requires c κs = omega arith
 
-abbrev start : tie.After-proposed → tie.Start
+abbrev start : tie.After-proposed-checked → tie.Start
 start c = c.before.before.before
 
-returns : tie.Need-returns
-returns c =
-    let e = c.before.enum-told2.given.1 in
+returns-in_default : tie.Need-returns-in_default
+returns-in_default c =
+    let e = c.before.enum_told-in_default-1.given.1 in
     let p = c.before.before.before in
     let a = (start p).args in
-    ap verdict_of (c.refused.ensures ∙ ap as_refused e) ∙ sym (by_check a.file.now a.interval a.starts.now _ (sym p.proposed.ensures ∙ ap refusal_of e))
+    ap verdict_of (c.refused.ensures ∙ ap as_refused e) ∙ sym (by_check a.file.now a.interval a.starts.now _ (sym p.proposed-checked.ensures ∙ ap refusal_of e))
 
 -- ---- once nothing is against the proposal
 
-abbrev file : tie.After-proposed → List ℕ
+abbrev file : tie.After-proposed-checked → List ℕ
 file c = (start c).args.file.now
 
 -- the starts that count
-abbrev list : tie.After-proposed → List ℕ
+abbrev list : tie.After-proposed-checked → List ℕ
 list c = one_each (loop_of (file c)) (start c).args.starts.now
 
-fine : (c : tie.After-enum-told) → let p = c.before.before in first_refusal (proposed_checks (file p) (start p).args.interval (start p).args.starts.now) ≡ none
-fine c = sym c.before.before.proposed.ensures ∙ ap refusal_of c.enum_told.given.1
+fine : (c : tie.In-Fine) → let p = c.before.before in first_refusal (proposed_checks (file p) (start p).args.interval (start p).args.starts.now) ≡ none
+fine c = sym c.before.before.proposed-checked.ensures ∙ ap refusal_of c.enum_told-1.given.1
 
 -- the answer is what the walks find
-by_found : (c : tie.After-enum-told) (e : Option ℕ) (p : Option (ℕ × ℕ)) → let k = c.before.before in
+by_found : (c : tie.In-Fine) (e : Option ℕ) (p : Option (ℕ × ℕ)) → let k = c.before.before in
     let a = (start k).args in
     first_broken (loop_of (file k)) a.interval (list k) ≡ e → first_pair (loop_of (file k)) a.interval (list k) ≡ p
     → answered (judge e p (λ q. number_of (pair_place (loop_of (file k)) a.interval (list k) q))) ≡ verify_file (file k) a.interval a.starts.now
@@ -64,68 +64,68 @@ by_found c e p x y =
     sym (by_walks (file k) a.interval a.starts.now (fine c)
     ∙ ap₂ (λ (d : Option ℕ) (r : Option (ℕ × ℕ)). answered (judge d r (λ q. number_of (pair_place (loop_of (file k)) a.interval (list k) q)))) x y)
 
-first-broken-requires : tie.Need-first-broken-requires
-first-broken-requires c κs =
+first_broken-dependence-requires : tie.Need-first_broken-dependence-requires
+first_broken-dependence-requires c κs =
     let k = c.before.before in
     let a = (start k).args in
     (pass_file (file k) a.interval a.starts.now (fine c), pass_asked (file k) a.interval a.starts.now (fine c))
 
-enum-told-3 : tie.Need-enum-told-3
-enum-told-3 c = omega arith
+enum_told-in-Nothing : tie.Need-enum_told-in-Nothing
+enum_told-in-Nothing c = omega arith
 
-enum-told-4 : tie.Need-enum-told-4
-enum-told-4 c = omega arith
+enum_told-in_default-dependence : tie.Need-enum_told-in_default-dependence
+enum_told-in_default-dependence c = omega arith
 
 broken-requires : tie.Need-broken-requires
 broken-requires c κs = omega arith
 
-returns-2 : tie.Need-returns-2
-returns-2 c =
-    let e = c.before.enum-told4.given.1 in
+returns-in_default-dependence : tie.Need-returns-in_default-dependence
+returns-in_default-dependence c =
+    let e = c.before.enum_told-in_default-dependence-1.given.1 in
     let b = c.before.before.before in
-    ap verdict_of (c.broken.ensures ∙ ap as_broken e) ∙ by_found b.before _ _ (sym b.first-broken.ensures ∙ ap broken_of e) refl
+    ap verdict_of (c.broken.ensures ∙ ap as_broken e) ∙ by_found b.before _ _ (sym b.first_broken-dependence.ensures ∙ ap broken_of e) refl
 
 -- ---- once the dependences hold
 
-none_broken : (c : tie.After-enum-told3) → let k = c.before.before.before.before.before in first_broken (loop_of (file k)) (start k).args.interval (list k) ≡ none
-none_broken c = sym c.before.before.first-broken.ensures ∙ ap broken_of c.enum-told3.given.1
+none_broken : (c : tie.In-Nothing) → let k = c.before.before.before.before.before in first_broken (loop_of (file k)) (start k).args.interval (list k) ≡ none
+none_broken c = sym c.before.before.first_broken-dependence.ensures ∙ ap broken_of c.enum_told-in-Nothing-1.given.1
 
-first-pair-requires : tie.Need-first-pair-requires
-first-pair-requires c κs = let b = c.before.before in first-broken-requires b.before κs
+first_pair-pair-requires : tie.Need-first_pair-pair-requires
+first_pair-pair-requires c κs = let b = c.before.before in first_broken-dependence-requires b.before κs
 
-enum-known-pair : tie.Need-enum-known-pair
-enum-known-pair c = omega arith
+enum_known-pair : tie.Need-enum_known-pair
+enum_known-pair c = omega arith
 
-enum-told-5 : tie.Need-enum-told-5
-enum-told-5 c = omega arith
+enum_told-in_default-pair : tie.Need-enum_told-in_default-pair
+enum_told-in_default-pair c = omega arith
 
-returns-3 : tie.Need-returns-3
-returns-3 c =
-    let p = c.before.before in by_found p.before.before.before.before _ _ (none_broken p.before) (sym p.first-pair.ensures ∙ ap pair_of c.enum-told5.given.1)
+returns-in_default-pair : tie.Need-returns-in_default-pair
+returns-in_default-pair c =
+    let p = c.before.before in by_found p.before.before.before.before _ _ (none_broken p.before) (sym p.first_pair-pair.ensures ∙ ap pair_of c.enum_told-in_default-pair-1.given.1)
 
 -- ---- where a pair conflicts
 
-abbrev pair-at : tie.After-known-told → tie.After-first-pair
+abbrev pair-at : tie.In-At → tie.After-first_pair-pair
 pair-at c = c.before.before.before
 
-abbrev after : tie.After-known-told → tie.After-enum-told
+abbrev after : tie.In-At → tie.In-Fine
 after c = (pair-at c).before.before.before.before
 
 -- its two operations
-abbrev one : tie.After-known-told → ℕ
-one c = c.before.pair.given.0.0
+abbrev one : tie.In-At → ℕ
+one c = c.before.pair-1.given.0.0
 
-abbrev other : tie.After-known-told → ℕ
-other c = c.before.pair.given.0.1.0
+abbrev other : tie.In-At → ℕ
+other c = c.before.pair-1.given.0.1.0
 
-found : (c : tie.After-known-told) → let k = (after c).before.before in first_pair (loop_of (file k)) (start k).args.interval (list k) ≡ some (one c, other c)
-found c = sym (pair-at c).first-pair.ensures ∙ ap pair_of c.before.pair.given.1
+found : (c : tie.In-At) → let k = (after c).before.before in first_pair (loop_of (file k)) (start k).args.interval (list k) ≡ some (one c, other c)
+found c = sym (pair-at c).first_pair-pair.ensures ∙ ap pair_of c.before.pair-1.given.1
 
-is_pair : (c : tie.After-known-told) → let k = (after c).before.before in PairFound (loop_of (file k)) (start k).args.interval (list k) (one c) (other c)
+is_pair : (c : tie.In-At) → let k = (after c).before.before in PairFound (loop_of (file k)) (start k).args.interval (list k) (one c) (other c)
 is_pair c = let k = (after c).before.before in pair_found (loop_of (file k)) (start k).args.interval (list k) (one c) (other c) (found c)
 
-place-of-requires : tie.Need-place-of-requires
-place-of-requires c κs =
+place_of-place-requires : tie.Need-place_of-place-requires
+place_of-place-requires c κs =
     let k = (after c).before.before in
     let a = (start k).args in
     (pass_file (file k) a.interval a.starts.now (fine (after c)), pass_asked (file k) a.interval a.starts.now (fine (after c)), (is_pair c).ordered, (is_pair c).inside)
@@ -136,35 +136,35 @@ number-requires c κs =
     let k = (after w).before.before in
     let a = (start k).args in
     pair_range (loop_of (file k)) a.interval (list k) (one w) (other w) (accepted_ok (file k) (pass_file (file k) a.interval a.starts.now (fine (after w)))) (is_pair w).inside
-    c.place_of.result c.place_of.ensures
+    c.place_of-place.result c.place_of-place.ensures
 
-returns-4 : tie.Need-returns-4
-returns-4 c =
+returns : tie.Need-returns
+returns c =
     let p = c.before in
     let w = p.before in
     let k = (after w).before.before in
     ap (λ (n : ℕ). answered (clash (one w) (other w) n)) c.number.ensures
-    ∙ conflict_says (one w) (other w) p.place_of.result (pair_place (loop_of (file k)) (start k).args.interval (list k) (one w, other w)) p.place_of.ensures
+    ∙ conflict_says (one w) (other w) p.place_of-place.result (pair_place (loop_of (file k)) (start k).args.interval (list k) (one w, other w)) p.place_of-place.ensures
     ∙ by_found (after w) none (some (one w, other w)) (none_broken (pair-at w).before) (found w)
 
 pub verify_spec : {M : Type 1} → statement M
 verify_spec =
     tie.close
     (tie.spec
-    proposed-requires
-    enum_told
-    enum-told-2
+    proposed-checked-requires
+    enum_told-1
+    enum_told-in_default
     refused-requires
-    returns
-    first-broken-requires
-    enum-told-3
-    enum-told-4
+    returns-in_default
+    first_broken-dependence-requires
+    enum_told-in-Nothing
+    enum_told-in_default-dependence
     broken-requires
-    returns-2
-    first-pair-requires
-    enum-known-pair
-    enum-told-5
-    returns-3
-    place-of-requires
+    returns-in_default-dependence
+    first_pair-pair-requires
+    enum_known-pair
+    enum_told-in_default-pair
+    returns-in_default-pair
+    place_of-place-requires
     number-requires
-    returns-4)
+    returns)

@@ -3,75 +3,75 @@ use Rattle.std.proofs.Common.{◌-◌, arith}
 use Rattle.verifier_cases.proofs.verified.Statement.{statement}
 use Rattle.verifier_cases.proofs.verified.Tie as tie
 
-abbrev invariant-loop : tie.invariant-loop
-invariant-loop file q starts₀ i₀ starts i = Unit
+abbrev invariant-loop-i : tie.invariant-loop-i
+invariant-loop-i file q starts₀ i₀ starts i = Unit
 
-abbrev decreases-loop : tie.decreases-loop
-decreases-loop file q starts₀ i₀ starts i = 4 - i
+abbrev decreases-loop-i : tie.decreases-loop-i
+decreases-loop-i file q starts₀ i₀ starts i = 4 - i
 
-loop-holds : tie.Need-loop-init invariant-loop decreases-loop
-loop-holds c = tt
+loop-i-init : tie.Need-loop-i-init invariant-loop-i decreases-loop-i
+loop-i-init c = tt
 
-add_start : tie.Need-overflow-add-start invariant-loop decreases-loop
-add_start c = omega arith
+overflow_add-i : tie.Need-overflow_add-i invariant-loop-i decreases-loop-i
+overflow_add-i c = omega arith
 
-mul-start : tie.Need-overflow-mul-start invariant-loop decreases-loop
-mul-start c = omega arith
+offset_bounds-q-i : tie.Need-offset_bounds-q-i invariant-loop-i decreases-loop-i
+offset_bounds-q-i c = omega arith
 
-element-copy-out-start : tie.Need-element-copy-out-start invariant-loop decreases-loop
-element-copy-out-start c = omega arith
+bounds-q-i : tie.Need-bounds-q-i invariant-loop-i decreases-loop-i
+bounds-q-i c = omega arith
 
-start-requires : tie.Need-start-requires invariant-loop decreases-loop
+start-requires : tie.Need-start-requires invariant-loop-i decreases-loop-i
 start-requires c κs = tt
 
-mul-starts : tie.Need-overflow-mul-starts invariant-loop decreases-loop
-mul-starts c = omega arith
+offset_bounds-starts-i : tie.Need-offset_bounds-starts-i invariant-loop-i decreases-loop-i
+offset_bounds-starts-i c = omega arith
 
-array-write-starts : tie.Need-array-write-starts invariant-loop decreases-loop
-array-write-starts c = omega arith
+bounds-starts-i : tie.Need-bounds-starts-i invariant-loop-i decreases-loop-i
+bounds-starts-i c = omega arith
 
-add-i : tie.Need-overflow-add-i invariant-loop decreases-loop
-add-i c = omega arith
+overflow_add-i-in-loop-i : tie.Need-overflow_add-i-in-loop-i invariant-loop-i decreases-loop-i
+overflow_add-i-in-loop-i c = omega arith
 
-loop-less : tie.Need-loop-smaller invariant-loop decreases-loop
-loop-less c = omega arith
+loop-i-smaller : tie.Need-loop-i-smaller invariant-loop-i decreases-loop-i
+loop-i-smaller c = omega arith
 
-loop-again : tie.Need-loop-preserved invariant-loop decreases-loop
-loop-again c = tt
+loop-i-preserved : tie.Need-loop-i-preserved invariant-loop-i decreases-loop-i
+loop-i-preserved c = tt
 
-element-copy-out-of-list : tie.Need-element-copy-out-of-list invariant-loop decreases-loop
-element-copy-out-of-list c = omega arith
+bounds-q-4 : tie.Need-bounds-q-4 invariant-loop-i decreases-loop-i
+bounds-q-4 c = omega arith
 
-element-copy-out-of-list-2 : tie.Need-element-copy-out-of-list-2 invariant-loop decreases-loop
-element-copy-out-of-list-2 c = omega arith
+bounds-q-5 : tie.Need-bounds-q-5 invariant-loop-i decreases-loop-i
+bounds-q-5 c = omega arith
 
-of-list-requires : tie.Need-of-list-requires invariant-loop decreases-loop
-of-list-requires c κs = tt
+of_list-requires : tie.Need-of_list-requires invariant-loop-i decreases-loop-i
+of_list-requires c κs = tt
 
-print-requires : tie.Need-print-requires invariant-loop decreases-loop
+print-requires : tie.Need-print-requires invariant-loop-i decreases-loop-i
 print-requires c κs = tt
 
-returns : tie.Need-returns invariant-loop decreases-loop
+returns : tie.Need-returns invariant-loop-i decreases-loop-i
 returns c = tt
 
 pub verified_spec : {M : Type 1} → statement M
 verified_spec =
     tie.close
     (tie.spec
-    invariant-loop
-    decreases-loop
-    loop-holds
-    add_start
-    mul-start
-    element-copy-out-start
+    invariant-loop-i
+    decreases-loop-i
+    loop-i-init
+    overflow_add-i
+    offset_bounds-q-i
+    bounds-q-i
     start-requires
-    mul-starts
-    array-write-starts
-    add-i
-    loop-less
-    loop-again
-    element-copy-out-of-list
-    element-copy-out-of-list-2
-    of-list-requires
+    offset_bounds-starts-i
+    bounds-starts-i
+    overflow_add-i-in-loop-i
+    loop-i-smaller
+    loop-i-preserved
+    bounds-q-4
+    bounds-q-5
+    of_list-requires
     print-requires
     returns)

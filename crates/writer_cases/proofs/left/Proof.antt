@@ -3,47 +3,47 @@ use Rattle.std.proofs.Common.{◌-◌, arith}
 use Rattle.writer_cases.proofs.left.Statement.{statement}
 use Rattle.writer_cases.proofs.left.Tie as tie
 
-abbrev invariant-loop : tie.invariant-loop
-invariant-loop out k₀ k = Unit
+abbrev invariant-loop-k : tie.invariant-loop-k
+invariant-loop-k out k₀ k = Unit
 
-abbrev decreases-loop : tie.decreases-loop
-decreases-loop out k₀ k = 2000 - k
+abbrev decreases-loop-k : tie.decreases-loop-k
+decreases-loop-k out k₀ k = 2000 - k
 
-loop-holds : tie.Need-loop-init invariant-loop decreases-loop
-loop-holds c = tt
+loop-k-init : tie.Need-loop-k-init invariant-loop-k decreases-loop-k
+loop-k-init c = tt
 
-sub-if1 : tie.Need-overflow-sub-if1 invariant-loop decreases-loop
-sub-if1 c = omega arith
+overflow_sub-k : tie.Need-overflow_sub-k invariant-loop-k decreases-loop-k
+overflow_sub-k c = omega arith
 
-element-copy-out-if1 : tie.Need-element-copy-out-if1 invariant-loop decreases-loop
-element-copy-out-if1 c = omega arith
+bounds-out-k : tie.Need-bounds-out-k invariant-loop-k decreases-loop-k
+bounds-out-k c = omega arith
 
-returns : tie.Need-returns invariant-loop decreases-loop
+returns-then-out-k : tie.Need-returns-then-out-k invariant-loop-k decreases-loop-k
+returns-then-out-k c = tt
+
+overflow_add-k : tie.Need-overflow_add-k invariant-loop-k decreases-loop-k
+overflow_add-k c = omega arith
+
+loop-k-smaller : tie.Need-loop-k-smaller invariant-loop-k decreases-loop-k
+loop-k-smaller c = omega arith
+
+loop-k-preserved : tie.Need-loop-k-preserved invariant-loop-k decreases-loop-k
+loop-k-preserved c = tt
+
+returns : tie.Need-returns invariant-loop-k decreases-loop-k
 returns c = tt
-
-add-k : tie.Need-overflow-add-k invariant-loop decreases-loop
-add-k c = omega arith
-
-loop-less : tie.Need-loop-smaller invariant-loop decreases-loop
-loop-less c = omega arith
-
-loop-again : tie.Need-loop-preserved invariant-loop decreases-loop
-loop-again c = tt
-
-returns-2 : tie.Need-returns-2 invariant-loop decreases-loop
-returns-2 c = tt
 
 pub left_spec : {M : Type 1} → statement M
 left_spec =
     tie.close
     (tie.spec
-    invariant-loop
-    decreases-loop
-    loop-holds
-    sub-if1
-    element-copy-out-if1
-    returns
-    add-k
-    loop-less
-    loop-again
-    returns-2)
+    invariant-loop-k
+    decreases-loop-k
+    loop-k-init
+    overflow_sub-k
+    bounds-out-k
+    returns-then-out-k
+    overflow_add-k
+    loop-k-smaller
+    loop-k-preserved
+    returns)

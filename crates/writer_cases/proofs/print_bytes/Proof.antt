@@ -3,51 +3,47 @@ use Rattle.std.proofs.Common.{◌-◌, length, arith}
 use Rattle.writer_cases.proofs.print_bytes.Statement.{statement}
 use Rattle.writer_cases.proofs.print_bytes.Tie as tie
 
-abbrev invariant-loop : tie.invariant-loop
-invariant-loop file i₀ t3 i = Unit
+abbrev invariant-loop-i : tie.invariant-loop-i
+invariant-loop-i file i₀ t3 i = Unit
 
-abbrev decreases-loop : tie.decreases-loop
-decreases-loop file i₀ t3 i = length file - i
+abbrev decreases-loop-i : tie.decreases-loop-i
+decreases-loop-i file i₀ t3 i = length file - i
 
-loop-holds : tie.Need-loop-init invariant-loop decreases-loop
-loop-holds c = tt
+loop-i-init : tie.Need-loop-i-init invariant-loop-i decreases-loop-i
+loop-i-init c = tt
 
-shared-slice-read-print-byte : tie.Need-shared-slice-read-print-byte invariant-loop decreases-loop
-shared-slice-read-print-byte c = omega arith
+bounds-file-i : tie.Need-bounds-file-i invariant-loop-i decreases-loop-i
+bounds-file-i c = omega arith
 
-print-byte-requires : tie.Need-print-byte-requires invariant-loop decreases-loop
-print-byte-requires c κs = tt
+print_byte-requires : tie.Need-print_byte-requires invariant-loop-i decreases-loop-i
+print_byte-requires c κs = tt
 
-add-i : tie.Need-overflow-add-i invariant-loop decreases-loop
-add-i c = omega arith
+overflow_add-i : tie.Need-overflow_add-i invariant-loop-i decreases-loop-i
+overflow_add-i c = omega arith
 
-loop-less : tie.Need-loop-smaller invariant-loop decreases-loop
-loop-less c = omega arith
+loop-i-smaller : tie.Need-loop-i-smaller invariant-loop-i decreases-loop-i
+loop-i-smaller c = omega arith
 
-loop-again : tie.Need-loop-preserved invariant-loop decreases-loop
-loop-again c = tt
+loop-i-preserved : tie.Need-loop-i-preserved invariant-loop-i decreases-loop-i
+loop-i-preserved c = tt
 
-slice-aggregate-write-all : tie.Need-slice-aggregate-write-all invariant-loop decreases-loop
-slice-aggregate-write-all c = omega arith
+write_all-requires : tie.Need-write_all-requires invariant-loop-i decreases-loop-i
+write_all-requires c κs = tt
 
-write-all-requires : tie.Need-write-all-requires invariant-loop decreases-loop
-write-all-requires c κs = tt
-
-returns : tie.Need-returns invariant-loop decreases-loop
+returns : tie.Need-returns invariant-loop-i decreases-loop-i
 returns c = tt
 
 pub print_bytes_spec : {M : Type 1} → statement M
 print_bytes_spec =
     tie.close
     (tie.spec
-    invariant-loop
-    decreases-loop
-    loop-holds
-    shared-slice-read-print-byte
-    print-byte-requires
-    add-i
-    loop-less
-    loop-again
-    slice-aggregate-write-all
-    write-all-requires
+    invariant-loop-i
+    decreases-loop-i
+    loop-i-init
+    bounds-file-i
+    print_byte-requires
+    overflow_add-i
+    loop-i-smaller
+    loop-i-preserved
+    write_all-requires
     returns)

@@ -9,22 +9,22 @@ use Rattle.board.specs.Checks.{as_clash}
 use Rattle.board.proofs.checks.clash.Statement.{statement}
 use Rattle.board.proofs.checks.clash.Tie as tie
 
-enum_told : tie.Need-enum-told
-enum_told c = search rules
+enum_told-1 : tie.Need-enum_told-1
+enum_told-1 c = search rules
 
-enum-told-2 : tie.Need-enum-told-2
-enum-told-2 c = search rules
+enum_told-in_default : tie.Need-enum_told-in_default
+enum_told-in_default c = search rules
 
 number-requires : tie.Need-number-requires
 number-requires c κs = search rules
 
-returns : tie.Need-returns
-returns c =
-    let e = c.before.enum-told2.given.1 in
+returns-in_default : tie.Need-returns-in_default
+returns-in_default c =
+    let e = c.before.enum_told-in_default-1.given.1 in
     ap (λ (n : ℕ). Refused 17 n) c.number.ensures ∙ ap (λ (p : Place). Refused 17 (number_in p)) e ∙ sym (ap as_clash e)
 
-returns-2 : tie.Need-returns-2
-returns-2 c = search rules
+returns : tie.Need-returns
+returns c = search rules
 
 pub clash_spec : {M : Type 1} → statement M
-clash_spec = tie.close (tie.spec enum_told enum-told-2 number-requires returns returns-2)
+clash_spec = tie.close (tie.spec enum_told-1 enum_told-in_default number-requires returns-in_default returns)

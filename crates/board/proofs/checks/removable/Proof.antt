@@ -11,38 +11,38 @@ use Rattle.board.proofs.Refusals.{no_such, is_free, is_there}
 use Rattle.board.proofs.checks.removable.Statement.{statement}
 use Rattle.board.proofs.checks.removable.Tie as tie
 
-op-count-requires : tie.Need-op-count-requires
-op-count-requires c κs = c.before.requires.accepted
+op_count-requires : tie.Need-op_count-requires
+op_count-requires c κs = c.before.requires.accepted
 
-returns : tie.Need-returns
-returns c =
+returns-then-op_count-op : tie.Need-returns-then-op_count-op
+returns-then-op_count-op c =
     let k = c.before in
     let a = k.before.before.args in
-    sym (no_such a.file.now 0 a.op 0 a.starts.now _ (omega (arith, c.if1.true, k.op_count.ensures)))
+    sym (no_such a.file.now 0 a.op 0 a.starts.now _ (omega (arith, c.if-op_count-op.true, k.op_count.ensures)))
 
 -- the operation is there
-inside : (c : tie.Else1) → let a = c.before.before.before.args in a.op < size (loop_of a.file.now)
-inside c = omega (arith, c.if1.false, c.before.op_count.ensures)
+inside : (c : tie.Else-op_count-op) → let a = c.before.before.before.args in a.op < size (loop_of a.file.now)
+inside c = omega (arith, c.if-op_count-op.false, c.before.op_count.ensures)
 
 -- and is below 64
-small : (c : tie.Else1) → c.before.before.before.args.op < 64
+small : (c : tie.Else-op_count-op) → c.before.before.before.args.op < 64
 small c = let s = c.before.before.before in omega (arith, inside c, (accepted_ok s.args.file.now s.requires.accepted).few)
 
 -- what the array has in its place
-there : (c : tie.Else1) → let a = c.before.before.before.args in get_or a.starts.now a.op 65535 ≡ get_or a.starts.now a.op 0
+there : (c : tie.Else-op_count-op) → let a = c.before.before.before.args in get_or a.starts.now a.op 65535 ≡ get_or a.starts.now a.op 0
 there c = let s = c.before.before.before in get_or_within s.args.starts.now s.args.op 65535 0 (omega (arith, small c, s.requires.whole))
 
-mul-if2 : tie.Need-overflow-mul-if2
-mul-if2 c = record { fits = omega (arith, small c) }
+offset_bounds-starts-op : tie.Need-offset_bounds-starts-op
+offset_bounds-starts-op c = record { fits = omega (arith, small c) }
 
-element-copy-out-if2 : tie.Need-element-copy-out-if2
-element-copy-out-if2 c = small c
+bounds-starts-op : tie.Need-bounds-starts-op
+bounds-starts-op c = small c
 
-returns-2 : tie.Need-returns-2
-returns-2 c = let e = c.before.before in let a = e.before.before.before.args in sym (is_free a.file.now 0 a.op 0 a.starts.now (inside e) (there e ∙ c.if2.true))
+returns-then-starts-op : tie.Need-returns-then-starts-op
+returns-then-starts-op c = let e = c.before.before in let a = e.before.before.before.args in sym (is_free a.file.now 0 a.op 0 a.starts.now (inside e) (there e ∙ c.if-starts-op.true))
 
-returns-3 : tie.Need-returns-3
-returns-3 c = let e = c.before.before in let a = e.before.before.before.args in sym (is_there a.file.now 0 a.op 0 a.starts.now (inside e) (λ q. c.if2.false (sym (there e) ∙ q)))
+returns : tie.Need-returns
+returns c = let e = c.before.before in let a = e.before.before.before.args in sym (is_there a.file.now 0 a.op 0 a.starts.now (inside e) (λ q. c.if-starts-op.false (sym (there e) ∙ q)))
 
 pub removable_spec : {M : Type 1} → statement M
-removable_spec = tie.close (tie.spec op-count-requires returns mul-if2 element-copy-out-if2 returns-2 returns-3)
+removable_spec = tie.close (tie.spec op_count-requires returns-then-op_count-op offset_bounds-starts-op bounds-starts-op returns-then-starts-op returns)

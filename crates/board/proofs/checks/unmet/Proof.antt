@@ -5,17 +5,17 @@ use Rattle.board.specs.Checks.{as_unmet}
 use Rattle.board.proofs.checks.unmet.Statement.{statement}
 use Rattle.board.proofs.checks.unmet.Tie as tie
 
-enum_told : tie.Need-enum-told
-enum_told c = search rules
+enum_told-1 : tie.Need-enum_told-1
+enum_told-1 c = search rules
 
-enum-known-b : tie.Need-enum-known-b
-enum-known-b c = search rules
+enum_known-b : tie.Need-enum_known-b
+enum_known-b c = search rules
 
-returns : tie.Need-returns
-returns c = search rules
+returns-in-Nothing : tie.Need-returns-in-Nothing
+returns-in-Nothing c = search rules
 
-returns-2 : tie.Need-returns-2
-returns-2 c = sym (ap as_unmet c.before.b.given.1)
+returns-in-At : tie.Need-returns-in-At
+returns-in-At c = sym (ap as_unmet c.before.b-1.given.1)
 
 pub unmet_spec : {M : Type 1} → statement M
-unmet_spec = tie.close (tie.spec enum_told enum-known-b returns returns-2)
+unmet_spec = tie.close (tie.spec enum_told-1 enum_known-b returns-in-Nothing returns-in-At)

@@ -16,50 +16,50 @@ use Rattle.board.proofs.Obstacles.{force_inside, force_open, force_near, force_f
 use Rattle.board.proofs.moves.force.Statement.{statement}
 use Rattle.board.proofs.moves.force.Tie as tie
 
-slice-aggregate-file : tie.Need-slice-aggregate-file
-slice-aggregate-file c = let s = c.before.before.before in sym (length-take-le s.args.length- s.args.store.now s.requires.0)
+slice_bounds-file-end : tie.Need-slice_bounds-file-end
+slice_bounds-file-end c = let s = c.before.before.before in sym (length-take-le s.args.length- s.args.store.now s.requires.0)
 
-forceable-requires : tie.Need-forceable-requires
-forceable-requires c κs =
+forceable-checked-requires : tie.Need-forceable-checked-requires
+forceable-checked-requires c κs =
     let b = c.before.before.before.before.requires.1 in
     (b.accepted, b.numbers, record { accepted = b.accepted; whole = b.sane.whole })
 
-abbrev start : tie.After-forceable → tie.Start
+abbrev start : tie.After-forceable-checked → tie.Start
 start c = c.before.before.before.before.before
 
 -- the file
 abbrev file : tie.Start → List ℕ
 file s = take s.args.length- s.args.store.now
 
-enum_told : tie.Need-enum-told
-enum_told c = omega arith
+enum_told-1 : tie.Need-enum_told-1
+enum_told-1 c = omega arith
 
-enum-told-2 : tie.Need-enum-told-2
-enum-told-2 c = omega arith
+enum_told-in_default : tie.Need-enum_told-in_default
+enum_told-in_default c = omega arith
 
-passed-on-requires : tie.Need-passed-on-requires
-passed-on-requires c κs = omega arith
+passed_on-requires : tie.Need-passed_on-requires
+passed_on-requires c κs = omega arith
 
-returns : tie.Need-returns
-returns c =
+returns-in_default : tie.Need-returns-in_default
+returns-in_default c =
     let k = c.before.before.before in
     let s = start k in
-    did_passed s.pre.1 (force s.args.op s.args.start) k.forceable.ensures c.before.enum-told2.given.1 c.passed_on.ensures
+    did_passed s.pre.1 (force s.args.op s.args.start) k.forceable-checked.ensures c.before.enum_told-in_default-1.given.1 c.passed_on.ensures
 
 -- nothing is against it
-fine : (c : tie.After-enum-told) → let s = start c.before.before in
+fine : (c : tie.In-Fine) → let s = start c.before.before in
     first_refusal (checks (setup_as (file s) s.args.interval s.args.horizon) (force s.args.op s.args.start) (bare (file s) s.args.starts.now)) ≡ none
-fine c = sym c.before.before.forceable.ensures ∙ ap refusal_of c.enum_told.given.1
+fine c = sym c.before.before.forceable-checked.ensures ∙ ap refusal_of c.enum_told-1.given.1
 
 -- its start is in range
-near : (c : tie.After-enum-told) → (start c.before.before).args.start < 4096
+near : (c : tie.In-Fine) → (start c.before.before).args.start < 4096
 near c =
     let s = start c.before.before in
     let b = s.pre.1 in
     omega (arith, force_near b s.args.op s.args.start (fine c), b.numbers.far)
 
-displace-requires : tie.Need-displace-requires
-displace-requires c κs =
+displace-mask-requires : tie.Need-displace-mask-requires
+displace-mask-requires c κs =
     let e = c.before.before in
     let s = start e.before.before in
     let b = s.pre.1 in
@@ -75,31 +75,31 @@ put-requires c κs =
     let b = s.pre.1 in
     let o = s.args.op in
     let t = s.args.start in
-    let l = d.displace.ensures in
+    let l = d.displace-mask.ensures in
     record { board = l.board; inside = force_inside b o t (fine e); blank = force_free b o t (fine e) l; near = near e; fits = force_fits b o t (fine e) l }
 
-same_length : tie.Need-same-length
-same_length c = omega arith
+shape_of-rows : tie.Need-shape_of-rows
+shape_of-rows c = omega arith
 
-returns-2 : tie.Need-returns-2
-returns-2 c =
+returns : tie.Need-returns
+returns c =
     let u = c.before.before in
     let d = u.before.before.before.before.before in
     let e = d.before.before.before in
     let s = start e.before.before in
-    did_force s.pre.1 s.args.op s.args.start (fine e) d.displace.ensures u.put.ensures
+    did_force s.pre.1 s.args.op s.args.start (fine e) d.displace-mask.ensures u.put.ensures
 
 pub force_spec : {M : Type 1} → statement M
 force_spec =
     tie.close
     (tie.spec
-    slice-aggregate-file
-    forceable-requires
-    enum_told
-    enum-told-2
-    passed-on-requires
-    returns
-    displace-requires
+    slice_bounds-file-end
+    forceable-checked-requires
+    enum_told-1
+    enum_told-in_default
+    passed_on-requires
+    returns-in_default
+    displace-mask-requires
     put-requires
-    same_length
-    returns-2)
+    shape_of-rows
+    returns)

@@ -14,95 +14,95 @@ use Rattle.board.proofs.Hits.{mark_begin, mark_skip, mark_target, mark_source}
 use Rattle.board.proofs.moves.mark_broken.Statement.{statement}
 use Rattle.board.proofs.moves.mark_broken.Tie as tie
 
-abbrev invariant-loop : tie.invariant-loop
-invariant-loop file op start interval starts hits₀ m e₀ hits e = (e ≤ m) × HitsAre (loop_of file) interval op start e starts hits
+abbrev invariant-loop-e : tie.invariant-loop-e
+invariant-loop-e file op start interval starts hits₀ m e₀ hits e = (e ≤ m) × HitsAre (loop_of file) interval op start e starts hits
 
-abbrev decreases-loop : tie.decreases-loop
-decreases-loop file op start interval starts hits₀ m e₀ hits e = m - e
+abbrev decreases-loop-e : tie.decreases-loop-e
+decreases-loop-e file op start interval starts hits₀ m e₀ hits e = m - e
 
-dep-count-requires : tie.Need-dep-count-requires invariant-loop decreases-loop
-dep-count-requires c κs = c.before.requires.0.accepted
+dep_count-m-requires : tie.Need-dep_count-m-requires invariant-loop-e decreases-loop-e
+dep_count-m-requires c κs = c.before.requires.0.accepted
 
-loop-holds : tie.Need-loop-init invariant-loop decreases-loop
-loop-holds c =
+loop-e-init : tie.Need-loop-e-init invariant-loop-e decreases-loop-e
+loop-e-init c =
     let s = c.before.before in
     (omega arith, mark_begin (loop_of s.args.file.now) s.args.interval s.args.op s.args.start s.args.starts.now s.args.hits.now s.requires.3)
 
 -- the function's entry, as a turn sees it
-abbrev entry : tie.In-loop invariant-loop decreases-loop → tie.Start invariant-loop decreases-loop
+abbrev entry : tie.In-loop-e invariant-loop-e decreases-loop-e → tie.Start invariant-loop-e decreases-loop-e
 entry c = c.before.before.before.before
 
 -- the dependence is there
-below : (c : tie.In-loop invariant-loop decreases-loop) → c.before.loop.e < length (loop_of (entry c).args.file.now).deps
-below c = omega (arith, c.loop-test.true, c.before.before.dep_count.ensures)
+below : (c : tie.In-loop-e invariant-loop-e decreases-loop-e) → c.before.loop-e.e < length (loop_of (entry c).args.file.now).deps
+below c = omega (arith, c.loop-e-test.true, c.before.before.dep_count-m.ensures)
 
 -- the dependence of a turn, and its ends
-abbrev dep : tie.In-loop invariant-loop decreases-loop → Dep
-dep c = dep_at (loop_of (entry c).args.file.now) c.before.loop.e
+abbrev dep : tie.In-loop-e invariant-loop-e decreases-loop-e → Dep
+dep c = dep_at (loop_of (entry c).args.file.now) c.before.loop-e.e
 
-dep_ok : (c : tie.In-loop invariant-loop decreases-loop) → DepOk (size (loop_of (entry c).args.file.now)) (dep c)
-dep_ok c = (accepted_ok (entry c).args.file.now (entry c).requires.0.accepted).dep_ok c.before.loop.e (below c)
+dep_ok : (c : tie.In-loop-e invariant-loop-e decreases-loop-e) → DepOk (size (loop_of (entry c).args.file.now)) (dep c)
+dep_ok c = (accepted_ok (entry c).args.file.now (entry c).requires.0.accepted).dep_ok c.before.loop-e.e (below c)
 
-few : (c : tie.In-loop invariant-loop decreases-loop) → size (loop_of (entry c).args.file.now) ≤ 64
+few : (c : tie.In-loop-e invariant-loop-e decreases-loop-e) → size (loop_of (entry c).args.file.now) ≤ 64
 few c = few_operations (entry c).args.file.now (entry c).requires.0.accepted
 
-breaks-at-requires : tie.Need-breaks-at-requires invariant-loop decreases-loop
-breaks-at-requires c κs =
+breaks_at-requires : tie.Need-breaks_at-requires invariant-loop-e decreases-loop-e
+breaks_at-requires c κs =
     let i = c.before in
     let s = entry i in
     (s.pre.0.accepted, below i, omega (arith, s.pre.1), s.pre.2, omega (arith, few i, s.pre.0.whole))
 
-source-requires : tie.Need-source-requires invariant-loop decreases-loop
-source-requires c κs = let i = c.before.before.before in ((entry i).requires.0.accepted, below i)
+source-from-requires : tie.Need-source-from-requires invariant-loop-e decreases-loop-e
+source-from-requires c κs = let i = c.before.before.before in ((entry i).requires.0.accepted, below i)
 
-target-requires : tie.Need-target-requires invariant-loop decreases-loop
-target-requires c κs = let i = c.before.before.before.before.before in ((entry i).requires.0.accepted, below i)
+target-to-requires : tie.Need-target-to-requires invariant-loop-e decreases-loop-e
+target-to-requires c κs = let i = c.before.before.before.before.before in ((entry i).requires.0.accepted, below i)
 
-element-write-hits : tie.Need-element-write-hits invariant-loop decreases-loop
-element-write-hits c = let i = c.before.before.before.before.before.before in omega (arith, (dep_ok i).target, few i, c.target.ensures)
+bounds-hits-to : tie.Need-bounds-hits-to invariant-loop-e decreases-loop-e
+bounds-hits-to c = let i = c.before.before.before.before.before.before in omega (arith, (dep_ok i).target-to, few i, c.target-to.ensures)
 
-element-write-hits-2 : tie.Need-element-write-hits-2 invariant-loop decreases-loop
-element-write-hits-2 c = let i = c.before.before.before.before.before in omega (arith, (dep_ok i).source, few i, c.before.source.ensures)
+bounds-hits-from : tie.Need-bounds-hits-from invariant-loop-e decreases-loop-e
+bounds-hits-from c = let i = c.before.before.before.before.before in omega (arith, (dep_ok i).source-from, few i, c.before.source-from.ensures)
 
-add-e : tie.Need-overflow-add-e invariant-loop decreases-loop
-add-e c = omega arith
+overflow_add-e : tie.Need-overflow_add-e invariant-loop-e decreases-loop-e
+overflow_add-e c = omega arith
 
-loop-less : tie.Need-loop-smaller invariant-loop decreases-loop
-loop-less c = omega arith
+loop-e-smaller : tie.Need-loop-e-smaller invariant-loop-e decreases-loop-e
+loop-e-smaller c = omega arith
 
-loop-again : tie.Need-loop-preserved invariant-loop decreases-loop
-loop-again c =
+loop-e-preserved : tie.Need-loop-e-preserved invariant-loop-e decreases-loop-e
+loop-e-preserved c =
     let b = c.before in
     let i = b.before.before in
-    let h = i.before.loop.invariant.1 in (
+    let h = i.before.loop-e.invariant.1 in (
       omega arith,
       ⊎_elim
-          (λ w. rw w.4 (mark_target h w.3.result (omega (arith, (dep_ok i).target, few i, w.3.ensures)) w.3.ensures (sym b.breaks-at.ensures ∙ w.0.taken) (sym w.1.ensures ∙ w.2.taken)))
+          (λ w. rw w.4 (mark_target h w.3.result (omega (arith, (dep_ok i).target-to, few i, w.3.ensures)) w.3.ensures (sym b.breaks_at.ensures ∙ w.0.taken) (sym w.1.ensures ∙ w.2.taken)))
           (λ v. ⊎_elim
-          (λ w. rw w.3 (mark_source h w.1.result (omega (arith, (dep_ok i).source, few i, w.1.ensures)) w.1.ensures (sym b.breaks-at.ensures ∙ w.0.taken) (λ e. w.2.left (w.1.ensures ∙ e))))
-          (λ w. rw w.1 (mark_skip h (sym b.breaks-at.ensures ∙ w.0.left))) v)
-          c.if1.branch,
+          (λ w. rw w.3 (mark_source h w.1.result (omega (arith, (dep_ok i).source-from, few i, w.1.ensures)) w.1.ensures (sym b.breaks_at.ensures ∙ w.0.taken) (λ e. w.2.left (w.1.ensures ∙ e))))
+          (λ w. rw w.1 (mark_skip h (sym b.breaks_at.ensures ∙ w.0.left))) v)
+          c.if-breaks_at.branch,
     )
 
-returns : tie.Need-returns invariant-loop decreases-loop
+returns : tie.Need-returns invariant-loop-e decreases-loop-e
 returns c =
-    let e : c.before.before.dep_count.result ≡ c.before.loop.e = omega arith in
-    rw (← c.before.before.dep_count.ensures, e) c.before.loop.invariant.1
+    let e : c.before.before.dep_count-m.result ≡ c.before.loop-e.e = omega arith in
+    rw (← c.before.before.dep_count-m.ensures, e) c.before.loop-e.invariant.1
 
 pub mark_broken_spec : {M : Type 1} → statement M
 mark_broken_spec =
     tie.close
     (tie.spec
-    invariant-loop
-    decreases-loop
-    dep-count-requires
-    loop-holds
-    breaks-at-requires
-    source-requires
-    target-requires
-    element-write-hits
-    element-write-hits-2
-    add-e
-    loop-less
-    loop-again
+    invariant-loop-e
+    decreases-loop-e
+    dep_count-m-requires
+    loop-e-init
+    breaks_at-requires
+    source-from-requires
+    target-to-requires
+    bounds-hits-to
+    bounds-hits-from
+    overflow_add-e
+    loop-e-smaller
+    loop-e-preserved
     returns)

@@ -15,41 +15,41 @@ use Rattle.board.proofs.Effects.{blank_is, did_passed, place_inside, place_open,
 use Rattle.board.proofs.moves.place.Statement.{statement}
 use Rattle.board.proofs.moves.place.Tie as tie
 
-slice-aggregate-file : tie.Need-slice-aggregate-file
-slice-aggregate-file c = let s = c.before.before.before in sym (length-take-le s.args.length- s.args.store.now s.requires.0)
+slice_bounds-file-end : tie.Need-slice_bounds-file-end
+slice_bounds-file-end c = let s = c.before.before.before in sym (length-take-le s.args.length- s.args.store.now s.requires.0)
 
-placeable-requires : tie.Need-placeable-requires
-placeable-requires c κs = c.before.before.before.before.before.requires.1
+placeable-checked-requires : tie.Need-placeable-checked-requires
+placeable-checked-requires c κs = c.before.before.before.before.before.requires.1
 
-abbrev start : tie.After-placeable → tie.Start
+abbrev start : tie.After-placeable-checked → tie.Start
 start c = c.before.before.before.before.before.before
 
 -- the file
 abbrev file : tie.Start → List ℕ
 file s = take s.args.length- s.args.store.now
 
-enum_told : tie.Need-enum-told
-enum_told c = omega arith
+enum_told-1 : tie.Need-enum_told-1
+enum_told-1 c = omega arith
 
-enum-told-2 : tie.Need-enum-told-2
-enum-told-2 c = omega arith
+enum_told-in_default : tie.Need-enum_told-in_default
+enum_told-in_default c = omega arith
 
-passed-on-requires : tie.Need-passed-on-requires
-passed-on-requires c κs = omega arith
+passed_on-requires : tie.Need-passed_on-requires
+passed_on-requires c κs = omega arith
 
-same_length : tie.Need-same-length
-same_length c = omega arith
+shape_of-rows-in_default : tie.Need-shape_of-rows-in_default
+shape_of-rows-in_default c = omega arith
 
-returns : tie.Need-returns
-returns c =
+returns-in_default : tie.Need-returns-in_default
+returns-in_default c =
     let k = c.before.before.before in
     let s = start k in
-    did_passed s.pre.1 (place s.args.op s.args.start) k.placeable.ensures c.before.enum-told2.given.1 c.passed_on.ensures
+    did_passed s.pre.1 (place s.args.op s.args.start) k.placeable-checked.ensures c.before.enum_told-in_default-1.given.1 c.passed_on.ensures
 
 -- nothing is against it
-fine : (c : tie.After-enum-told) → let s = start c.before.before in
+fine : (c : tie.In-Fine) → let s = start c.before.before in
     first_refusal (checks (setup_as (file s) s.args.interval s.args.horizon) (place s.args.op s.args.start) (bare (file s) s.args.starts.now)) ≡ none
-fine c = sym c.before.before.placeable.ensures ∙ ap refusal_of c.enum_told.given.1
+fine c = sym c.before.before.placeable-checked.ensures ∙ ap refusal_of c.enum_told-1.given.1
 
 put-requires : tie.Need-put-requires
 put-requires c κs =
@@ -66,11 +66,11 @@ put-requires c κs =
       fits = place_fits b o t (fine e);
     }
 
-same-length-2 : tie.Need-same-length-2
-same-length-2 c = omega arith
+shape_of-rows : tie.Need-shape_of-rows
+shape_of-rows c = omega arith
 
-returns-2 : tie.Need-returns-2
-returns-2 c =
+returns : tie.Need-returns
+returns c =
     let u = c.before.before in
     let e = u.before.before.before in
     let s = start e.before.before in
@@ -80,13 +80,13 @@ pub place_spec : {M : Type 1} → statement M
 place_spec =
     tie.close
     (tie.spec
-    slice-aggregate-file
-    placeable-requires
-    enum_told
-    enum-told-2
-    passed-on-requires
-    same_length
-    returns
+    slice_bounds-file-end
+    placeable-checked-requires
+    enum_told-1
+    enum_told-in_default
+    passed_on-requires
+    shape_of-rows-in_default
+    returns-in_default
     put-requires
-    same-length-2
-    returns-2)
+    shape_of-rows
+    returns)

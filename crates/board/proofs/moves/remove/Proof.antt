@@ -14,38 +14,38 @@ use Rattle.board.proofs.Effects.{did_passed, remove_inside, remove_placed, did_r
 use Rattle.board.proofs.moves.remove.Statement.{statement}
 use Rattle.board.proofs.moves.remove.Tie as tie
 
-slice-aggregate-file : tie.Need-slice-aggregate-file
-slice-aggregate-file c = let s = c.before.before.before in sym (length-take-le s.args.length- s.args.store.now s.requires.0)
+slice_bounds-file-end : tie.Need-slice_bounds-file-end
+slice_bounds-file-end c = let s = c.before.before.before in sym (length-take-le s.args.length- s.args.store.now s.requires.0)
 
-removable-requires : tie.Need-removable-requires
-removable-requires c κs = let b = c.before.before.before.before.requires.1 in record { accepted = b.accepted; whole = b.sane.whole }
+removable-checked-requires : tie.Need-removable-checked-requires
+removable-checked-requires c κs = let b = c.before.before.before.before.requires.1 in record { accepted = b.accepted; whole = b.sane.whole }
 
-abbrev start : tie.After-removable → tie.Start
+abbrev start : tie.After-removable-checked → tie.Start
 start c = c.before.before.before.before.before
 
 -- the file
 abbrev file : tie.Start → List ℕ
 file s = take s.args.length- s.args.store.now
 
-enum_told : tie.Need-enum-told
-enum_told c = omega arith
+enum_told-1 : tie.Need-enum_told-1
+enum_told-1 c = omega arith
 
-enum-told-2 : tie.Need-enum-told-2
-enum-told-2 c = omega arith
+enum_told-in_default : tie.Need-enum_told-in_default
+enum_told-in_default c = omega arith
 
-passed-on-requires : tie.Need-passed-on-requires
-passed-on-requires c κs = omega arith
+passed_on-requires : tie.Need-passed_on-requires
+passed_on-requires c κs = omega arith
 
-returns : tie.Need-returns
-returns c h b =
+returns-in_default : tie.Need-returns-in_default
+returns-in_default c h b =
     let k = c.before.before.before in
     let s = start k in
-    did_passed b (remove s.args.op) k.removable.ensures c.before.enum-told2.given.1 c.passed_on.ensures
+    did_passed b (remove s.args.op) k.removable-checked.ensures c.before.enum_told-in_default-1.given.1 c.passed_on.ensures
 
 -- nothing is against it
-fine : (c : tie.After-enum-told) → let s = start c.before.before in
+fine : (c : tie.In-Fine) → let s = start c.before.before in
     first_refusal (checks (setup_as (file s) 0 0) (remove s.args.op) (bare (file s) s.args.starts.now)) ≡ none
-fine c = sym c.before.before.removable.ensures ∙ ap refusal_of c.enum_told.given.1
+fine c = sym c.before.before.removable-checked.ensures ∙ ap refusal_of c.enum_told-1.given.1
 
 lift-requires : tie.Need-lift-requires
 lift-requires c κs =
@@ -54,15 +54,15 @@ lift-requires c κs =
     let b = s.pre.1 in
     (b, remove_inside b s.args.op (fine e), remove_placed b s.args.op (fine e))
 
-same_length : tie.Need-same-length
-same_length c = omega arith
+shape_of-rows : tie.Need-shape_of-rows
+shape_of-rows c = omega arith
 
-returns-2 : tie.Need-returns-2
-returns-2 c h b =
+returns : tie.Need-returns
+returns c h b =
     let u = c.before.before in
     let e = u.before.before.before in
     let s = start e.before.before in
     did_remove b s.args.op (fine e) u.lift.ensures
 
 pub remove_spec : {M : Type 1} → statement M
-remove_spec = tie.close (tie.spec slice-aggregate-file removable-requires enum_told enum-told-2 passed-on-requires returns lift-requires same_length returns-2)
+remove_spec = tie.close (tie.spec slice_bounds-file-end removable-checked-requires enum_told-1 enum_told-in_default passed_on-requires returns-in_default lift-requires shape_of-rows returns)

@@ -6,26 +6,26 @@ use Rattle.board.proofs.Rollback.{thin_end, restored}
 use Rattle.board.proofs.moves.restore.Statement.{statement}
 use Rattle.board.proofs.moves.restore.Tie as tie
 
-slice-aggregate-file : tie.Need-slice-aggregate-file
-slice-aggregate-file c = let s = c.before.before.before in sym (length-take-le s.args.length- s.args.store.now s.requires.0)
+slice_bounds-file-end : tie.Need-slice_bounds-file-end
+slice_bounds-file-end c = let s = c.before.before.before in sym (length-take-le s.args.length- s.args.store.now s.requires.0)
 
-lift-others-requires : tie.Need-lift-others-requires
-lift-others-requires c κs = let p = c.before.before.before.before.before.requires in (p.1, p.2)
+lift_others-requires : tie.Need-lift_others-requires
+lift_others-requires c κs = let p = c.before.before.before.before.before.requires in (p.1, p.2)
 
-put-missing-requires : tie.Need-put-missing-requires
-put-missing-requires c κs =
+put_missing-requires : tie.Need-put_missing-requires
+put_missing-requires c κs =
     let l = c.before.before.before.before in
-    (l.lift-others.ensures.board, l.before.before.before.before.before.before.requires.2, thin_end l.lift-others.ensures)
+    (l.lift_others.ensures.board, l.before.before.before.before.before.before.requires.2, thin_end l.lift_others.ensures)
 
-same_length : tie.Need-same-length
-same_length c = search rules
+shape_of-rows : tie.Need-shape_of-rows
+shape_of-rows c = search rules
 
 returns : tie.Need-returns
 returns c =
     let p = c.before.before in
-    restored p.before.before.before.before.before.lift-others.ensures p.put-missing.ensures
+    restored p.before.before.before.before.before.lift_others.ensures p.put_missing.ensures
 
 pub restore_spec : {M : Type 1} → statement M
 restore_spec =
     tie.close
-    (tie.spec slice-aggregate-file lift-others-requires put-missing-requires same_length returns)
+    (tie.spec slice_bounds-file-end lift_others-requires put_missing-requires shape_of-rows returns)

@@ -3,43 +3,43 @@ use Rattle.std.proofs.Common.{◌-◌, arith}
 use Rattle.bounds_cases.proofs.cycles.bound.Statement.{statement}
 use Rattle.bounds_cases.proofs.cycles.bound.Tie as tie
 
-abbrev invariant-loop : tie.invariant-loop
-invariant-loop d found₀ k₀ found k = Unit
+abbrev invariant-loop-k : tie.invariant-loop-k
+invariant-loop-k d found₀ k₀ found k = Unit
 
-abbrev decreases-loop : tie.decreases-loop
-decreases-loop d found₀ k₀ found k = 2500 - k
+abbrev decreases-loop-k : tie.decreases-loop-k
+decreases-loop-k d found₀ k₀ found k = 2500 - k
 
-loop-holds : tie.Need-loop-init invariant-loop decreases-loop
-loop-holds c = tt
+loop-k-init : tie.Need-loop-k-init invariant-loop-k decreases-loop-k
+loop-k-init c = tt
 
-add-needed : tie.Need-overflow-add-needed invariant-loop decreases-loop
-add-needed c = omega arith
+overflow_add-k : tie.Need-overflow_add-k invariant-loop-k decreases-loop-k
+overflow_add-k c = omega arith
 
-needed-requires : tie.Need-needed-requires invariant-loop decreases-loop
-needed-requires c κs = tt
+needed-x-requires : tie.Need-needed-x-requires invariant-loop-k decreases-loop-k
+needed-x-requires c κs = tt
 
-add-k : tie.Need-overflow-add-k invariant-loop decreases-loop
-add-k c = omega arith
+overflow_add-k-in-loop-k : tie.Need-overflow_add-k-in-loop-k invariant-loop-k decreases-loop-k
+overflow_add-k-in-loop-k c = omega arith
 
-loop-less : tie.Need-loop-smaller invariant-loop decreases-loop
-loop-less c = omega arith
+loop-k-smaller : tie.Need-loop-k-smaller invariant-loop-k decreases-loop-k
+loop-k-smaller c = omega arith
 
-loop-again : tie.Need-loop-preserved invariant-loop decreases-loop
-loop-again c = tt
+loop-k-preserved : tie.Need-loop-k-preserved invariant-loop-k decreases-loop-k
+loop-k-preserved c = tt
 
-returns : tie.Need-returns invariant-loop decreases-loop
+returns : tie.Need-returns invariant-loop-k decreases-loop-k
 returns c = tt
 
 pub bound_spec : {M : Type 1} → statement M
 bound_spec =
     tie.close
     (tie.spec
-    invariant-loop
-    decreases-loop
-    loop-holds
-    add-needed
-    needed-requires
-    add-k
-    loop-less
-    loop-again
+    invariant-loop-k
+    decreases-loop-k
+    loop-k-init
+    overflow_add-k
+    needed-x-requires
+    overflow_add-k-in-loop-k
+    loop-k-smaller
+    loop-k-preserved
     returns)

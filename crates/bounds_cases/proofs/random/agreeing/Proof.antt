@@ -3,55 +3,55 @@ use Rattle.std.proofs.Common.{◌-◌, arith}
 use Rattle.bounds_cases.proofs.random.agreeing.Statement.{statement}
 use Rattle.bounds_cases.proofs.random.agreeing.Tie as tie
 
-abbrev invariant-loop : tie.invariant-loop
-invariant-loop seed₀ agree₀ i₀ seed agree i = Unit
+abbrev invariant-loop-i : tie.invariant-loop-i
+invariant-loop-i seed₀ agree₀ i₀ seed agree i = Unit
 
-abbrev decreases-loop : tie.decreases-loop
-decreases-loop seed₀ agree₀ i₀ seed agree i = 400 - i
+abbrev decreases-loop-i : tie.decreases-loop-i
+decreases-loop-i seed₀ agree₀ i₀ seed agree i = 400 - i
 
-loop-holds : tie.Need-loop-init invariant-loop decreases-loop
-loop-holds c = tt
+loop-i-init : tie.Need-loop-i-init invariant-loop-i decreases-loop-i
+loop-i-init c = tt
 
-draw-loop-requires : tie.Need-draw-loop-requires invariant-loop decreases-loop
-draw-loop-requires c κs = tt
+draw_loop-d-requires : tie.Need-draw_loop-d-requires invariant-loop-i decreases-loop-i
+draw_loop-d-requires c κs = tt
 
-computed-requires : tie.Need-computed-requires invariant-loop decreases-loop
+computed-requires : tie.Need-computed-requires invariant-loop-i decreases-loop-i
 computed-requires c κs = tt
 
-bound-requires : tie.Need-bound-requires invariant-loop decreases-loop
+bound-requires : tie.Need-bound-requires invariant-loop-i decreases-loop-i
 bound-requires c κs = tt
 
-same-requires : tie.Need-same-requires invariant-loop decreases-loop
+same-requires : tie.Need-same-requires invariant-loop-i decreases-loop-i
 same-requires c κs = tt
 
-wrapping-add-usize-requires : tie.Need-wrapping-add-usize-requires invariant-loop decreases-loop
-wrapping-add-usize-requires c κs = tt
+wrapping_add_usize-agree-requires : tie.Need-wrapping_add_usize-agree-requires invariant-loop-i decreases-loop-i
+wrapping_add_usize-agree-requires c κs = tt
 
-add-i : tie.Need-overflow-add-i invariant-loop decreases-loop
-add-i c = omega arith
+overflow_add-i : tie.Need-overflow_add-i invariant-loop-i decreases-loop-i
+overflow_add-i c = omega arith
 
-loop-less : tie.Need-loop-smaller invariant-loop decreases-loop
-loop-less c = omega arith
+loop-i-smaller : tie.Need-loop-i-smaller invariant-loop-i decreases-loop-i
+loop-i-smaller c = omega arith
 
-loop-again : tie.Need-loop-preserved invariant-loop decreases-loop
-loop-again c = tt
+loop-i-preserved : tie.Need-loop-i-preserved invariant-loop-i decreases-loop-i
+loop-i-preserved c = tt
 
-returns : tie.Need-returns invariant-loop decreases-loop
+returns : tie.Need-returns invariant-loop-i decreases-loop-i
 returns c = tt
 
 pub agreeing_spec : {M : Type 1} → statement M
 agreeing_spec =
     tie.close
     (tie.spec
-    invariant-loop
-    decreases-loop
-    loop-holds
-    draw-loop-requires
+    invariant-loop-i
+    decreases-loop-i
+    loop-i-init
+    draw_loop-d-requires
     computed-requires
     bound-requires
     same-requires
-    wrapping-add-usize-requires
-    add-i
-    loop-less
-    loop-again
+    wrapping_add_usize-agree-requires
+    overflow_add-i
+    loop-i-smaller
+    loop-i-preserved
     returns)

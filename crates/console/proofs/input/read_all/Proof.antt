@@ -7,80 +7,80 @@ use lib.ListN.{length}
 use Rattle.console.proofs.input.read_all.Statement.{statement}
 use Rattle.console.proofs.input.read_all.Tie as tie
 
-abbrev invariant-loop : tie.invariant-loop
-invariant-loop bytes₀ have₀ turns₀ bytes have turns = (have ≤ length bytes) × (length bytes ≡ length bytes₀)
+abbrev invariant-loop-turns : tie.invariant-loop-turns
+invariant-loop-turns bytes₀ have₀ turns₀ bytes have turns = (have ≤ length bytes) × (length bytes ≡ length bytes₀)
 
-abbrev decreases-loop : tie.decreases-loop
-decreases-loop bytes₀ have₀ turns₀ bytes have turns = turns
+abbrev decreases-loop-turns : tie.decreases-loop-turns
+decreases-loop-turns bytes₀ have₀ turns₀ bytes have turns = turns
 
-loop-holds : tie.Need-loop-init invariant-loop decreases-loop
-loop-holds c = (omega arith, refl)
+loop-turns-init : tie.Need-loop-turns-init invariant-loop-turns decreases-loop-turns
+loop-turns-init c = (omega arith, refl)
 
-read-once-requires : tie.Need-read-once-requires invariant-loop decreases-loop
-read-once-requires c κs = omega arith
+read_once-step-requires : tie.Need-read_once-step-requires invariant-loop-turns decreases-loop-turns
+read_once-step-requires c κs = omega arith
 
-enum_told : tie.Need-enum-told invariant-loop decreases-loop
-enum_told c = omega arith
+enum_told-1 : tie.Need-enum_told-1 invariant-loop-turns decreases-loop-turns
+enum_told-1 c = omega arith
 
-enum-told-2 : tie.Need-enum-told-2 invariant-loop decreases-loop
-enum-told-2 c = omega arith
+enum_told-in-Ended : tie.Need-enum_told-in-Ended invariant-loop-turns decreases-loop-turns
+enum_told-in-Ended c = omega arith
 
-same_length : tie.Need-same-length invariant-loop decreases-loop
-same_length c = omega arith
+shape_of-bytes-in-Ended : tie.Need-shape_of-bytes-in-Ended invariant-loop-turns decreases-loop-turns
+shape_of-bytes-in-Ended c = omega arith
 
-returns : tie.Need-returns invariant-loop decreases-loop
+returns-in-Ended : tie.Need-returns-in-Ended invariant-loop-turns decreases-loop-turns
+returns-in-Ended c =
+    let r = c.before.before.before.before.read_once-step in
+    let l : r.result.have ≤ length r.new.0 = omega arith in
+    ((l, sym (length-take-le r.result.have r.new.0 l)), omega arith)
+
+enum_told-in-Failed : tie.Need-enum_told-in-Failed invariant-loop-turns decreases-loop-turns
+enum_told-in-Failed c = omega arith
+
+shape_of-bytes-in-Failed : tie.Need-shape_of-bytes-in-Failed invariant-loop-turns decreases-loop-turns
+shape_of-bytes-in-Failed c = omega arith
+
+returns-in-Failed : tie.Need-returns-in-Failed invariant-loop-turns decreases-loop-turns
+returns-in-Failed c =
+    let r = c.before.before.before.before.read_once-step in
+    let l : r.result.have ≤ length r.new.0 = omega arith in
+    ((l, sym (length-take-le r.result.have r.new.0 l)), omega arith)
+
+overflow_sub-turns : tie.Need-overflow_sub-turns invariant-loop-turns decreases-loop-turns
+overflow_sub-turns c = omega arith
+
+loop-turns-smaller : tie.Need-loop-turns-smaller invariant-loop-turns decreases-loop-turns
+loop-turns-smaller c = omega arith
+
+loop-turns-preserved : tie.Need-loop-turns-preserved invariant-loop-turns decreases-loop-turns
+loop-turns-preserved c = (omega arith, omega arith)
+
+shape_of-bytes : tie.Need-shape_of-bytes invariant-loop-turns decreases-loop-turns
+shape_of-bytes c = omega arith
+
+returns : tie.Need-returns invariant-loop-turns decreases-loop-turns
 returns c =
-    let r = c.before.before.before.before.read-once in
-    let l : r.result.have ≤ length r.new.0 = omega arith in
-    ((l, sym (length-take-le r.result.have r.new.0 l)), omega arith)
-
-enum-told-3 : tie.Need-enum-told-3 invariant-loop decreases-loop
-enum-told-3 c = omega arith
-
-same-length-2 : tie.Need-same-length-2 invariant-loop decreases-loop
-same-length-2 c = omega arith
-
-returns-2 : tie.Need-returns-2 invariant-loop decreases-loop
-returns-2 c =
-    let r = c.before.before.before.before.read-once in
-    let l : r.result.have ≤ length r.new.0 = omega arith in
-    ((l, sym (length-take-le r.result.have r.new.0 l)), omega arith)
-
-sub-turns : tie.Need-overflow-sub-turns invariant-loop decreases-loop
-sub-turns c = omega arith
-
-loop-less : tie.Need-loop-smaller invariant-loop decreases-loop
-loop-less c = omega arith
-
-loop-again : tie.Need-loop-preserved invariant-loop decreases-loop
-loop-again c = (omega arith, omega arith)
-
-same-length-3 : tie.Need-same-length-3 invariant-loop decreases-loop
-same-length-3 c = omega arith
-
-returns-3 : tie.Need-returns-3 invariant-loop decreases-loop
-returns-3 c =
-    let g = c.before.loop in
-    let l : g.have ≤ length g.bytes = omega arith in
-    ((l, sym (length-take-le g.have g.bytes l)), omega arith)
+    let g = c.before.loop-turns in
+    let l : g.have ≤ length g.bytes-1 = omega arith in
+    ((l, sym (length-take-le g.have g.bytes-1 l)), omega arith)
 
 pub read_all_spec : {M : Type 1} → statement M
 read_all_spec =
     tie.close
     (tie.spec
-    invariant-loop
-    decreases-loop
-    loop-holds
-    read-once-requires
-    enum_told
-    enum-told-2
-    same_length
-    returns
-    enum-told-3
-    same-length-2
-    returns-2
-    sub-turns
-    loop-less
-    loop-again
-    same-length-3
-    returns-3)
+    invariant-loop-turns
+    decreases-loop-turns
+    loop-turns-init
+    read_once-step-requires
+    enum_told-1
+    enum_told-in-Ended
+    shape_of-bytes-in-Ended
+    returns-in-Ended
+    enum_told-in-Failed
+    shape_of-bytes-in-Failed
+    returns-in-Failed
+    overflow_sub-turns
+    loop-turns-smaller
+    loop-turns-preserved
+    shape_of-bytes
+    returns)

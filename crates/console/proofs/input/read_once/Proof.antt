@@ -4,20 +4,20 @@ use Rattle.console.proofs.Lines.{put_within}
 use Rattle.console.proofs.input.read_once.Statement.{statement}
 use Rattle.console.proofs.input.read_once.Tie as tie
 
-buffer-requires : tie.Need-buffer-requires
-buffer-requires c κs = tt
+buffer-chunk-requires : tie.Need-buffer-chunk-requires
+buffer-chunk-requires c κs = tt
 
-slice-aggregate-read : tie.Need-slice-aggregate-read
-slice-aggregate-read c = omega arith
+slice_bounds-read-end : tie.Need-slice_bounds-read-end
+slice_bounds-read-end c = omega arith
 
 read-requires : tie.Need-read-requires
 read-requires c κs = tt
 
-returns : tie.Need-returns
-returns c = omega arith
+returns-in-Err : tie.Need-returns-in-Err
+returns-in-Err c = omega arith
 
-returns-2 : tie.Need-returns-2
-returns-2 c = omega arith
+returns-in-Ok-eq0 : tie.Need-returns-in-Ok-eq0
+returns-in-Ok-eq0 c = omega arith
 
 slice-aggregate-count : tie.Need-slice-aggregate-count
 slice-aggregate-count c = omega arith
@@ -25,37 +25,37 @@ slice-aggregate-count c = omega arith
 count-requires : tie.Need-count-requires
 count-requires c κs = tt
 
-array-share-prefix-chunk : tie.Need-array-share-prefix-chunk
-array-share-prefix-chunk c = omega arith
+slice_bounds-chunk-end : tie.Need-slice_bounds-chunk-end
+slice_bounds-chunk-end c = omega arith
 
-slice-aggregate-text : tie.Need-slice-aggregate-text
-slice-aggregate-text c = omega arith
+slice_bounds-text-end : tie.Need-slice_bounds-text-end
+slice_bounds-text-end c = omega arith
 
-text-requires : tie.Need-text-requires
-text-requires c κs = tt
+text-next-requires : tie.Need-text-next-requires
+text-next-requires c κs = tt
 
-same_length : tie.Need-same-length
-same_length c = omega arith
+shape_of-bytes : tie.Need-shape_of-bytes
+shape_of-bytes c = omega arith
 
-returns-3 : tie.Need-returns-3
-returns-3 c =
+returns-in-Ok : tie.Need-returns-in-Ok
+returns-in-Ok c =
     let t = c.before.before in
     let a = t.before.before.before.before.before.before.before.before.before.before.before.before.args in
-    put_within a.bytes.now a.have _ t.text.ensures (omega arith)
+    put_within a.bytes-1.now a.have _ t.text-next.ensures (omega arith)
 
 pub read_once_spec : {M : Type 1} → statement M
 read_once_spec =
     tie.close
     (tie.spec
-    buffer-requires
-    slice-aggregate-read
+    buffer-chunk-requires
+    slice_bounds-read-end
     read-requires
-    returns
-    returns-2
+    returns-in-Err
+    returns-in-Ok-eq0
     slice-aggregate-count
     count-requires
-    array-share-prefix-chunk
-    slice-aggregate-text
-    text-requires
-    same_length
-    returns-3)
+    slice_bounds-chunk-end
+    slice_bounds-text-end
+    text-next-requires
+    shape_of-bytes
+    returns-in-Ok)

@@ -4,62 +4,62 @@ use mathlib.Core.Path.{◌≡◌, refl}
 use Prim.Native.Nat.{◌-◌, ◌≤◌}
 use native.Mathlib.Omega.{arith}
 use lib.ListN.{length}
-use Rattle.console.proofs.line.fill.Statement.{statement}
-use Rattle.console.proofs.line.fill.Tie as tie
+use Rattle.console.proofs.line-1.fill.Statement.{statement}
+use Rattle.console.proofs.line-1.fill.Tie as tie
 
-abbrev invariant-loop : tie.invariant-loop
-invariant-loop line₀ template numbers at₀ next₀ i₀ line at next i = (next ≤ i) × (i ≤ length template) × (length line ≡ length line₀)
+abbrev invariant-loop-i : tie.invariant-loop-i
+invariant-loop-i line₀ template numbers at₀ next₀ i₀ line at next i = (next ≤ i) × (i ≤ length template) × (length line ≡ length line₀)
 
-abbrev decreases-loop : tie.decreases-loop
-decreases-loop line₀ template numbers at₀ next₀ i₀ line at next i = length template - i
+abbrev decreases-loop-i : tie.decreases-loop-i
+decreases-loop-i line₀ template numbers at₀ next₀ i₀ line at next i = length template - i
 
-loop-holds : tie.Need-loop-init invariant-loop decreases-loop
-loop-holds c = (omega arith, omega arith, refl)
+loop-i-init : tie.Need-loop-i-init invariant-loop-i decreases-loop-i
+loop-i-init c = (omega arith, omega arith, refl)
 
-shared-slice-read-put-byte : tie.Need-shared-slice-read-put-byte invariant-loop decreases-loop
-shared-slice-read-put-byte c = omega arith
+bounds-template-i : tie.Need-bounds-template-i invariant-loop-i decreases-loop-i
+bounds-template-i c = omega arith
 
-at-or-zero-requires : tie.Need-at-or-zero-requires invariant-loop decreases-loop
-at-or-zero-requires c κs = tt
+at_or_zero-requires : tie.Need-at_or_zero-requires invariant-loop-i decreases-loop-i
+at_or_zero-requires c κs = tt
 
-put-byte-requires : tie.Need-put-byte-requires invariant-loop decreases-loop
-put-byte-requires c κs = tt
+put_byte-at-requires : tie.Need-put_byte-at-requires invariant-loop-i decreases-loop-i
+put_byte-at-requires c κs = tt
 
-shared-slice-read-if1 : tie.Need-shared-slice-read-if1 invariant-loop decreases-loop
-shared-slice-read-if1 c = omega arith
+bounds-template-i-in-loop-i : tie.Need-bounds-template-i-in-loop-i invariant-loop-i decreases-loop-i
+bounds-template-i-in-loop-i c = omega arith
 
-add-next : tie.Need-overflow-add-next invariant-loop decreases-loop
-add-next c = omega arith
+overflow_add-next : tie.Need-overflow_add-next invariant-loop-i decreases-loop-i
+overflow_add-next c = omega arith
 
-add-i : tie.Need-overflow-add-i invariant-loop decreases-loop
-add-i c = omega arith
+overflow_add-i : tie.Need-overflow_add-i invariant-loop-i decreases-loop-i
+overflow_add-i c = omega arith
 
-loop-less : tie.Need-loop-smaller invariant-loop decreases-loop
-loop-less c = omega arith
+loop-i-smaller : tie.Need-loop-i-smaller invariant-loop-i decreases-loop-i
+loop-i-smaller c = omega arith
 
-loop-again : tie.Need-loop-preserved invariant-loop decreases-loop
-loop-again c = ⊎_elim (λ w. omega arith) (λ w. omega arith) c.if1.branch
+loop-i-preserved : tie.Need-loop-i-preserved invariant-loop-i decreases-loop-i
+loop-i-preserved c = ⊎_elim (λ w. omega arith) (λ w. omega arith) c.if-template-i-eq37.branch
 
-same_length : tie.Need-same-length invariant-loop decreases-loop
-same_length c = omega arith
+shape_of-line : tie.Need-shape_of-line invariant-loop-i decreases-loop-i
+shape_of-line c = omega arith
 
-returns : tie.Need-returns invariant-loop decreases-loop
+returns : tie.Need-returns invariant-loop-i decreases-loop-i
 returns c = tt
 
 pub fill_spec : {M : Type 1} → statement M
 fill_spec =
     tie.close
     (tie.spec
-    invariant-loop
-    decreases-loop
-    loop-holds
-    shared-slice-read-put-byte
-    at-or-zero-requires
-    put-byte-requires
-    shared-slice-read-if1
-    add-next
-    add-i
-    loop-less
-    loop-again
-    same_length
+    invariant-loop-i
+    decreases-loop-i
+    loop-i-init
+    bounds-template-i
+    at_or_zero-requires
+    put_byte-at-requires
+    bounds-template-i-in-loop-i
+    overflow_add-next
+    overflow_add-i
+    loop-i-smaller
+    loop-i-preserved
+    shape_of-line
     returns)

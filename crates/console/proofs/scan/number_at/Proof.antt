@@ -6,19 +6,19 @@ use Rattle.console.specs.Scan.{figures, value_from, value_at, next_at}
 use Rattle.console.proofs.scan.number_at.Statement.{statement}
 use Rattle.console.proofs.scan.number_at.Tie as tie
 
-skip-requires : tie.Need-skip-requires
-skip-requires c κs = tt
+skip-start-requires : tie.Need-skip-start-requires
+skip-start-requires c κs = tt
 
-take-digits-requires : tie.Need-take-digits-requires
-take-digits-requires c κs = tt
+take_digits-requires : tie.Need-take_digits-requires
+take_digits-requires c κs = tt
 
 returns : tie.Need-returns
 unfolding value_at next_at
 returns c =
     let text = c.before.before.before.args.text.now in
-    let begins = c.before.skip.ensures in
-    let took = c.take-digits.ensures in
+    let begins = c.before.skip-start.ensures in
+    let took = c.take_digits.ensures in
     (took.0 ∙ ap (λ (s : ℕ). value_from 0 (drop s text)) begins, took.1 ∙ ap (λ (s : ℕ). s + figures (drop s text)) begins)
 
 pub number_at_spec : {M : Type 1} → statement M
-number_at_spec = tie.close (tie.spec skip-requires take-digits-requires returns)
+number_at_spec = tie.close (tie.spec skip-start-requires take_digits-requires returns)

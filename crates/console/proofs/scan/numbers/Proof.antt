@@ -10,56 +10,56 @@ use Rattle.console.proofs.Scans.{next_value, next_place}
 use Rattle.console.proofs.scan.numbers.Statement.{statement}
 use Rattle.console.proofs.scan.numbers.Tie as tie
 
-abbrev invariant-loop : tie.invariant-loop
-invariant-loop text at list₀ next₀ i₀ list next i =
+abbrev invariant-loop-i : tie.invariant-loop-i
+invariant-loop-i text at list₀ next₀ i₀ list next i =
     (i ≤ length list₀) × (next ≡ places i text at) × (list ≡ values i text at ++ drop i list₀) × (length list ≡ length list₀)
 
-abbrev decreases-loop : tie.decreases-loop
-decreases-loop text at list₀ next₀ i₀ list next i = length list₀ - i
+abbrev decreases-loop-i : tie.decreases-loop-i
+decreases-loop-i text at list₀ next₀ i₀ list next i = length list₀ - i
 
-loop-holds : tie.Need-loop-init invariant-loop decreases-loop
+loop-i-init : tie.Need-loop-i-init invariant-loop-i decreases-loop-i
 unfolding places values
-loop-holds c = (omega arith, refl, refl, refl)
+loop-i-init c = (omega arith, refl, refl, refl)
 
-number-at-requires : tie.Need-number-at-requires invariant-loop decreases-loop
-number-at-requires c κs = tt
+number_at-s-requires : tie.Need-number_at-s-requires invariant-loop-i decreases-loop-i
+number_at-s-requires c κs = tt
 
-mul-list : tie.Need-overflow-mul-list invariant-loop decreases-loop
-mul-list c = omega arith
+offset_bounds-list-i : tie.Need-offset_bounds-list-i invariant-loop-i decreases-loop-i
+offset_bounds-list-i c = omega arith
 
-slice-write-list : tie.Need-slice-write-list invariant-loop decreases-loop
-slice-write-list c = omega arith
+bounds-list-i : tie.Need-bounds-list-i invariant-loop-i decreases-loop-i
+bounds-list-i c = omega arith
 
-add-i : tie.Need-overflow-add-i invariant-loop decreases-loop
-add-i c = omega arith
+overflow_add-i : tie.Need-overflow_add-i invariant-loop-i decreases-loop-i
+overflow_add-i c = omega arith
 
-loop-less : tie.Need-loop-smaller invariant-loop decreases-loop
-loop-less c = omega arith
+loop-i-smaller : tie.Need-loop-i-smaller invariant-loop-i decreases-loop-i
+loop-i-smaller c = omega arith
 
-loop-again : tie.Need-loop-preserved invariant-loop decreases-loop
-loop-again c =
+loop-i-preserved : tie.Need-loop-i-preserved invariant-loop-i decreases-loop-i
+loop-i-preserved c =
     let g = c.before.before in
     let a = g.before.before.before.args in
-    let j = g.loop.i in
+    let j = g.loop-i.i in
     let text = a.text.now in
-    let read = c.number_at in (
+    let read = c.number_at-s in (
       omega arith,
-      next_place text a.at j read.result.next (read.ensures.1 ∙ ap (next_at text) g.loop.invariant.1),
-      ap (λ (l : List ℕ). set l j read.result.value) g.loop.invariant.2
-          ∙ next_value text a.at a.list.now j read.result.value (read.ensures.0 ∙ ap (value_at text) g.loop.invariant.1) (omega arith),
-      length-set g.loop.list j read.result.value ∙ g.loop.invariant.3,
+      next_place text a.at j read.result.next (read.ensures.1 ∙ ap (next_at text) g.loop-i.invariant.1),
+      ap (λ (l : List ℕ). set l j read.result.value) g.loop-i.invariant.2
+          ∙ next_value text a.at a.list.now j read.result.value (read.ensures.0 ∙ ap (value_at text) g.loop-i.invariant.1) (omega arith),
+      length-set g.loop-i.list j read.result.value ∙ g.loop-i.invariant.3,
     )
 
-same_length : tie.Need-same-length invariant-loop decreases-loop
-same_length c = omega arith
+shape_of-list : tie.Need-shape_of-list invariant-loop-i decreases-loop-i
+shape_of-list c = omega arith
 
-returns : tie.Need-returns invariant-loop decreases-loop
+returns : tie.Need-returns invariant-loop-i decreases-loop-i
 returns c =
     let g = c.before in
     let a = g.before.before.before.args in
-    let done : g.loop.i ≡ length a.list.now = omega arith in (
-      g.loop.invariant.1 ∙ ap (λ (n : ℕ). places n a.text.now a.at) done,
-      g.loop.invariant.2
+    let done : g.loop-i.i ≡ length a.list.now = omega arith in (
+      g.loop-i.invariant.1 ∙ ap (λ (n : ℕ). places n a.text.now a.at) done,
+      g.loop-i.invariant.2
           ∙ ap (λ (n : ℕ). values n a.text.now a.at ++ drop n a.list.now) done
           ∙ ap (λ (l : List ℕ). values (length a.list.now) a.text.now a.at ++ l) (drop-length a.list.now)
           ∙ append-nil (values (length a.list.now) a.text.now a.at),
@@ -69,14 +69,14 @@ pub numbers_spec : {M : Type 1} → statement M
 numbers_spec =
     tie.close
     (tie.spec
-    invariant-loop
-    decreases-loop
-    loop-holds
-    number-at-requires
-    mul-list
-    slice-write-list
-    add-i
-    loop-less
-    loop-again
-    same_length
+    invariant-loop-i
+    decreases-loop-i
+    loop-i-init
+    number_at-s-requires
+    offset_bounds-list-i
+    bounds-list-i
+    overflow_add-i
+    loop-i-smaller
+    loop-i-preserved
+    shape_of-list
     returns)

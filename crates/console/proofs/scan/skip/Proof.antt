@@ -9,49 +9,49 @@ use Rattle.console.proofs.Scans.{blank, not_blank, at_end}
 use Rattle.console.proofs.scan.skip.Statement.{statement}
 use Rattle.console.proofs.scan.skip.Tie as tie
 
-abbrev invariant-loop : tie.invariant-loop
-invariant-loop text at i₀ i = i + blanks (drop i text) ≡ at + blanks (drop at text)
+abbrev invariant-loop-i : tie.invariant-loop-i
+invariant-loop-i text at i₀ i = i + blanks (drop i text) ≡ at + blanks (drop at text)
 
-abbrev decreases-loop : tie.decreases-loop
-decreases-loop text at i₀ i = length text - i
+abbrev decreases-loop-i : tie.decreases-loop-i
+decreases-loop-i text at i₀ i = length text - i
 
-loop-holds : tie.Need-loop-init invariant-loop decreases-loop
-loop-holds c = refl
+loop-i-init : tie.Need-loop-i-init invariant-loop-i decreases-loop-i
+loop-i-init c = refl
 
-shared-slice-read-if1 : tie.Need-shared-slice-read-if1 invariant-loop decreases-loop
-shared-slice-read-if1 c = omega arith
+bounds-text-i : tie.Need-bounds-text-i invariant-loop-i decreases-loop-i
+bounds-text-i c = omega arith
 
-returns : tie.Need-returns invariant-loop decreases-loop
+returns-then-text-i-ne32 : tie.Need-returns-then-text-i-ne32 invariant-loop-i decreases-loop-i
 unfolding begin
-returns c =
+returns-then-text-i-ne32 c =
     let g = c.before.before.before in
-    omega (arith, g.loop.invariant, not_blank g.before.args.text.now g.loop.i (omega arith) (ne_eqb _ _ c.if1.true))
+    omega (arith, g.loop-i.invariant, not_blank g.before.args.text.now g.loop-i.i (omega arith) (ne_eqb _ _ c.if-text-i-ne32.true))
 
-add-i : tie.Need-overflow-add-i invariant-loop decreases-loop
-add-i c = omega arith
+overflow_add-i : tie.Need-overflow_add-i invariant-loop-i decreases-loop-i
+overflow_add-i c = omega arith
 
-loop-less : tie.Need-loop-smaller invariant-loop decreases-loop
-loop-less c = omega arith
+loop-i-smaller : tie.Need-loop-i-smaller invariant-loop-i decreases-loop-i
+loop-i-smaller c = omega arith
 
-loop-again : tie.Need-loop-preserved invariant-loop decreases-loop
-loop-again c =
+loop-i-preserved : tie.Need-loop-i-preserved invariant-loop-i decreases-loop-i
+loop-i-preserved c =
     let g = c.before.before.before in
-    omega (arith, g.loop.invariant, blank g.before.args.text.now g.loop.i (omega arith) c.if1.false)
+    omega (arith, g.loop-i.invariant, blank g.before.args.text.now g.loop-i.i (omega arith) c.if-text-i-ne32.false)
 
-returns-2 : tie.Need-returns-2 invariant-loop decreases-loop
+returns : tie.Need-returns invariant-loop-i decreases-loop-i
 unfolding begin
-returns-2 c = omega (arith, c.before.loop.invariant, (at_end c.before.before.args.text.now c.before.loop.i 0 (omega arith)).0)
+returns c = omega (arith, c.before.loop-i.invariant, (at_end c.before.before.args.text.now c.before.loop-i.i 0 (omega arith)).0)
 
 pub skip_spec : {M : Type 1} → statement M
 skip_spec =
     tie.close
     (tie.spec
-    invariant-loop
-    decreases-loop
-    loop-holds
-    shared-slice-read-if1
-    returns
-    add-i
-    loop-less
-    loop-again
-    returns-2)
+    invariant-loop-i
+    decreases-loop-i
+    loop-i-init
+    bounds-text-i
+    returns-then-text-i-ne32
+    overflow_add-i
+    loop-i-smaller
+    loop-i-preserved
+    returns)

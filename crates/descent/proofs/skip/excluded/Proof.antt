@@ -16,85 +16,85 @@ use Rattle.descent.proofs.Skips.{use_excludes, uses_free}
 use Rattle.descent.proofs.skip.excluded.Statement.{statement}
 use Rattle.descent.proofs.skip.excluded.Tie as tie
 
-abbrev invariant-loop : tie.invariant-loop
-invariant-loop file op first start interval rows n j₀ j =
+abbrev invariant-loop-j : tie.invariant-loop-j
+invariant-loop-j file op first start interval rows n j₀ j =
     (j ≤ n) × ((i : ℕ) → i < j → (k : ℕ) → met_at row_base interval rows start k (use_at (op_at (loop_of file) op) i) ≡ false)
 
-abbrev decreases-loop : tie.decreases-loop
-decreases-loop file op first start interval rows n j₀ j = n - j
+abbrev decreases-loop-j : tie.decreases-loop-j
+decreases-loop-j file op first start interval rows n j₀ j = n - j
 
-use-count-requires : tie.Need-use-count-requires invariant-loop decreases-loop
-use-count-requires c κs = let p = c.before.before.requires.0 in (p.accepted, p.inside)
+use_count-n-requires : tie.Need-use_count-n-requires invariant-loop-j decreases-loop-j
+use_count-n-requires c κs = let p = c.before.before.requires.0 in (p.accepted, p.inside)
 
-loop-holds : tie.Need-loop-init invariant-loop decreases-loop
-loop-holds c = (omega arith, λ i l. absurd (omega arith))
+loop-j-init : tie.Need-loop-j-init invariant-loop-j decreases-loop-j
+loop-j-init c = (omega arith, λ i l. absurd (omega arith))
 
-abbrev start : tie.At-loop invariant-loop decreases-loop → tie.Start invariant-loop decreases-loop
+abbrev start : tie.At-loop-j invariant-loop-j decreases-loop-j → tie.Start invariant-loop-j decreases-loop-j
 start h = h.before.before.before.before
 
 -- the uses
-abbrev uses : tie.At-loop invariant-loop decreases-loop → List Use
+abbrev uses : tie.At-loop-j invariant-loop-j decreases-loop-j → List Use
 uses h = (op_at (loop_of (start h).args.file.now) (start h).args.op).uses
 
 -- the use whose turn it is, by its number among all
-here : (c : tie.In-loop invariant-loop decreases-loop)
-    → let h = c.before in UseHere (start h).args.file.now (start h).args.op h.loop.j ((start h).args.first + h.loop.j)
+here : (c : tie.In-loop-j invariant-loop-j decreases-loop-j)
+    → let h = c.before in UseHere (start h).args.file.now (start h).args.op h.loop-j.j ((start h).args.first + h.loop-j.j)
 here c =
     let h = c.before in
     let p = (start h).requires.0 in
-    use_here _ (start h).args.op h.loop.j (start h).args.first h.before.use_count.result p.accepted p.inside p.first_is h.before.use_count.ensures c.loop-test.true
+    use_here _ (start h).args.op h.loop-j.j (start h).args.first h.before.use_count-n.result p.accepted p.inside p.first_is h.before.use_count-n.ensures c.loop-j-test.true
 
-inside : (c : tie.In-loop invariant-loop decreases-loop) → c.before.loop.j < length (uses c.before)
-inside c = omega (arith, c.before.before.use_count.ensures, c.loop-test.true)
+inside : (c : tie.In-loop-j invariant-loop-j decreases-loop-j) → c.before.loop-j.j < length (uses c.before)
+inside c = omega (arith, c.before.before.use_count-n.ensures, c.loop-j-test.true)
 
-add-use-excluded : tie.Need-overflow-add-use-excluded invariant-loop decreases-loop
-add-use-excluded c = omega (arith, (here c).small)
+overflow_add-first : tie.Need-overflow_add-first invariant-loop-j decreases-loop-j
+overflow_add-first c = omega (arith, (here c).small)
 
-use-excluded-requires : tie.Need-use-excluded-requires invariant-loop decreases-loop
-use-excluded-requires c κs =
+use_excluded-k-requires : tie.Need-use_excluded-k-requires invariant-loop-j decreases-loop-j
+use_excluded-k-requires c κs =
     let s = start c.before in let p = s.pre.0 in (p.accepted, (here c).inside, s.pre.1, p.some, p.short, p.long)
 
 -- what the call says of that use
-told : (c : tie.After-use-excluded invariant-loop decreases-loop)
+told : (c : tie.After-use_excluded-k invariant-loop-j decreases-loop-j)
     → let h = c.before.before in
     let a = (start h).args in
-    UseExcluded a.interval a.rows.now a.start (use_at (op_at (loop_of a.file.now) a.op) h.loop.j) c.use-excluded.result
+    UseExcluded a.interval a.rows.now a.start (use_at (op_at (loop_of a.file.now) a.op) h.loop-j.j) c.use_excluded-k.result
 told c =
     let a = (start c.before.before).args in
-    subst (λ (u : Use). UseExcluded a.interval a.rows.now a.start u c.use-excluded.result) (here c.before).is c.use-excluded.ensures
+    subst (λ (u : Use). UseExcluded a.interval a.rows.now a.start u c.use_excluded-k.result) (here c.before).is c.use_excluded-k.ensures
 
-returns : tie.Need-returns invariant-loop decreases-loop
-returns c = let i = c.before.before in use_excludes _ _ _ (uses i.before) i.before.loop.j _ (inside i) c.if1.true (told c.before)
+returns-then-k-gt0 : tie.Need-returns-then-k-gt0 invariant-loop-j decreases-loop-j
+returns-then-k-gt0 c = let i = c.before.before in use_excludes _ _ _ (uses i.before) i.before.loop-j.j _ (inside i) c.if-k-gt0.true (told c.before)
 
-add-j : tie.Need-overflow-add-j invariant-loop decreases-loop
-add-j c = omega (arith, inside c.before.before, (start c.before.before.before).fits.op)
+overflow_add-j : tie.Need-overflow_add-j invariant-loop-j decreases-loop-j
+overflow_add-j c = omega (arith, inside c.before.before, (start c.before.before.before).fits.op)
 
-loop-less : tie.Need-loop-smaller invariant-loop decreases-loop
-loop-less c = omega (arith, c.before.before.loop-test.true)
+loop-j-smaller : tie.Need-loop-j-smaller invariant-loop-j decreases-loop-j
+loop-j-smaller c = omega (arith, c.before.before.loop-j-test.true)
 
-loop-again : tie.Need-loop-preserved invariant-loop decreases-loop
-loop-again c =
+loop-j-preserved : tie.Need-loop-j-preserved invariant-loop-j decreases-loop-j
+loop-j-preserved c =
     let i = c.before.before in
     let h = i.before in
-    (omega (arith, i.loop-test.true), λ o l k. below_more _ h.loop.j (λ x m. h.loop.invariant.1 x m k) ((told c.before).free (omega (arith, c.if1.false)) k) o l)
+    (omega (arith, i.loop-j-test.true), λ o l k. below_more _ h.loop-j.j (λ x m. h.loop-j.invariant.1 x m k) ((told c.before).free (omega (arith, c.if-k-gt0.false)) k) o l)
 
-returns-2 : tie.Need-returns-2 invariant-loop decreases-loop
-returns-2 c =
+returns : tie.Need-returns invariant-loop-j decreases-loop-j
+returns c =
     let h = c.before in
-    uses_free _ _ _ (uses h) (λ j l. h.loop.invariant.1 j (omega (arith, c.loop-test.false, h.before.use_count.ensures)))
+    uses_free _ _ _ (uses h) (λ j l. h.loop-j.invariant.1 j (omega (arith, c.loop-j-test.false, h.before.use_count-n.ensures)))
 
 pub excluded_spec : {M : Type 1} → statement M
 excluded_spec =
     tie.close
     (tie.spec
-    invariant-loop
-    decreases-loop
-    use-count-requires
-    loop-holds
-    add-use-excluded
-    use-excluded-requires
-    returns
-    add-j
-    loop-less
-    loop-again
-    returns-2)
+    invariant-loop-j
+    decreases-loop-j
+    use_count-n-requires
+    loop-j-init
+    overflow_add-first
+    use_excluded-k-requires
+    returns-then-k-gt0
+    overflow_add-j
+    loop-j-smaller
+    loop-j-preserved
+    returns)

@@ -33,11 +33,11 @@ lag c = c.before.before.args.interval * c.distance.result
 lag_small : (c : tie.After-distance) → lag c ≤ 4096 * 15
 lag_small c = lag_le c.before.before.args.interval (dep_ok c.before.before) c.before.before.requires.3 c.distance.ensures
 
-mul-lag : tie.Need-overflow-mul-lag
-mul-lag c = omega (arith, lag_small c)
+overflow_mul-lag : tie.Need-overflow_mul-lag
+overflow_mul-lag c = omega (arith, lag_small c)
 
-cast-due : tie.Need-overflow-cast-due
-cast-due c = search rules
+overflow_cast-due : tie.Need-overflow_cast-due
+overflow_cast-due c = search rules
 
 delay-requires : tie.Need-delay-requires
 delay-requires c κs = search rules
@@ -48,39 +48,39 @@ start c = c.before.before.before
 -- the sum and `due` as differences of naturals
 sum_is : (c : tie.After-delay)
     → Is (to_z w32 (start c).args.start +ℤ to_z w32 (of_z w32 c.delay.result)) ((start c).args.start + plus (dep (start c)).delay) (0 + minus (dep (start c)).delay)
-sum_is c = is_add (is_cast w32 (start c).args.start (omega arith)) (is_got w32 c.delay.type-inv c.delay.ensures (parts _))
+sum_is c = is_add (is_cast w32 (start c).args.start (omega arith)) (is_got w32 c.delay.type_inv c.delay.ensures (parts _))
 
-add-due : tie.Need-overflow-add-due
-add-due c = is_fits w32 (sum_is c) (omega (arith, delay_late (dep_ok (start c)))) (omega (arith, delay_early (dep_ok (start c))))
+overflow_add-due : tie.Need-overflow_add-due
+overflow_add-due c = is_fits w32 (sum_is c) (omega (arith, delay_late (dep_ok (start c)))) (omega (arith, delay_early (dep_ok (start c))))
 
-cast-due-2 : tie.Need-overflow-cast-due-2
-cast-due-2 c = omega (arith, lag_small c.before)
+overflow_cast-due-2 : tie.Need-overflow_cast-due-2
+overflow_cast-due-2 c = omega (arith, lag_small c.before)
 
 due_is : (c : tie.After-delay)
     → Is (to_z w32 (of_z w32 (to_z w32 (start c).args.start +ℤ to_z w32 (of_z w32 c.delay.result))) -ℤ to_z w32 (lag c.before))
     ((start c).args.start + plus (dep (start c)).delay + 0) (0 + minus (dep (start c)).delay + lag c.before)
-due_is c = is_subtract (is_back w32 (add-due c) (sum_is c)) (is_cast w32 (lag c.before) (omega (arith, lag_small c.before)))
+due_is c = is_subtract (is_back w32 (overflow_add-due c) (sum_is c)) (is_cast w32 (lag c.before) (omega (arith, lag_small c.before)))
 
-sub-due : tie.Need-overflow-sub-due
-sub-due c = is_fits w32 (due_is c) (omega (arith, delay_late (dep_ok (start c)))) (omega (arith, delay_early (dep_ok (start c)), lag_small c.before))
+overflow_sub-due : tie.Need-overflow_sub-due
+overflow_sub-due c = is_fits w32 (due_is c) (omega (arith, delay_late (dep_ok (start c)))) (omega (arith, delay_early (dep_ok (start c)), lag_small c.before))
+
+returns-then-due-lt0 : tie.Need-returns-then-due-lt0
+returns-then-due-lt0 c t =
+    let a = (start c.before).args in
+    let d = dep (start c.before) in
+    leb_same 0 t (a.start + plus d.delay) (t + lag c.before.before + minus d.delay)
+    (λ l. omega (arith, below_zero (is_back w32 (overflow_sub-due c.before) (due_is c.before)) c.if-due-lt0.true))
+    (λ l. omega arith)
+    ∙ holds_lag a.interval d a.start t c.before.before.distance.ensures
+
+overflow_cast-result : tie.Need-overflow_cast-result
+overflow_cast-result c = cast_fits w64 (is_back w32 (overflow_sub-due c.before) (due_is c.before)) c.if-due-lt0.false (omega (arith, delay_late (dep_ok (start c.before))))
 
 returns : tie.Need-returns
 returns c t =
     let a = (start c.before).args in
     let d = dep (start c.before) in
-    leb_same 0 t (a.start + plus d.delay) (t + lag c.before.before + minus d.delay)
-    (λ l. omega (arith, below_zero (is_back w32 (sub-due c.before) (due_is c.before)) c.if1.true))
-    (λ l. omega arith)
-    ∙ holds_lag a.interval d a.start t c.before.before.distance.ensures
-
-cast-result : tie.Need-overflow-cast-result
-cast-result c = cast_fits w64 (is_back w32 (sub-due c.before) (due_is c.before)) c.if1.false (omega (arith, delay_late (dep_ok (start c.before))))
-
-returns-2 : tie.Need-returns-2
-returns-2 c t =
-    let a = (start c.before).args in
-    let d = dep (start c.before) in
-    let k = cast_is (is_back w32 (sub-due c.before) (due_is c.before)) c.if1.false in
+    let k = cast_is (is_back w32 (overflow_sub-due c.before) (due_is c.before)) c.if-due-lt0.false in
     leb_same _ t (a.start + plus d.delay) (t + lag c.before.before + minus d.delay) (λ l. omega (arith, k)) (λ l. omega (arith, k))
     ∙ holds_lag a.interval d a.start t c.before.before.distance.ensures
 
@@ -89,12 +89,12 @@ earliest_spec =
     tie.close
     (tie.spec
     distance-requires
-    mul-lag
-    cast-due
+    overflow_mul-lag
+    overflow_cast-due
     delay-requires
-    add-due
-    cast-due-2
-    sub-due
-    returns
-    cast-result
-    returns-2)
+    overflow_add-due
+    overflow_cast-due-2
+    overflow_sub-due
+    returns-then-due-lt0
+    overflow_cast-result
+    returns)

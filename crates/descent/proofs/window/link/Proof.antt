@@ -10,104 +10,104 @@ use Rattle.descent.proofs.Links.{Linking, link_none, link_more, link_all}
 use Rattle.descent.proofs.window.link.Statement.{statement}
 use Rattle.descent.proofs.window.link.Tie as tie
 
-abbrev invariant-loop : tie.invariant-loop
-invariant-loop file m links₀ e₀ links e = Linking (loop_of file) links e
+abbrev invariant-loop-e : tie.invariant-loop-e
+invariant-loop-e file m links₀ e₀ links e = Linking (loop_of file) links e
 
-abbrev decreases-loop : tie.decreases-loop
-decreases-loop file m links₀ e₀ links e = e
+abbrev decreases-loop-e : tie.decreases-loop-e
+decreases-loop-e file m links₀ e₀ links e = e
 
-dep-count-requires : tie.Need-dep-count-requires invariant-loop decreases-loop
-dep-count-requires c κs = c.before.requires
+dep_count-m-requires : tie.Need-dep_count-m-requires invariant-loop-e decreases-loop-e
+dep_count-m-requires c κs = c.before.requires
 
 -- there are at most 256 dependences, between operations of the loop
-ok : (s : tie.Start invariant-loop decreases-loop) → LoopOk (loop_of s.args.file.now)
+ok : (s : tie.Start invariant-loop-e decreases-loop-e) → LoopOk (loop_of s.args.file.now)
 ok s = accepted_ok s.args.file.now s.requires
 
-cast-links : tie.Need-overflow-cast-links invariant-loop decreases-loop
-cast-links c = omega (arith, (ok c.before.before).sparse, c.dep_count.ensures)
+overflow_cast-links : tie.Need-overflow_cast-links invariant-loop-e decreases-loop-e
+overflow_cast-links c = omega (arith, (ok c.before.before).sparse, c.dep_count-m.ensures)
 
-loop-holds : tie.Need-loop-init invariant-loop decreases-loop
-loop-holds c = link_none _ (ok c.before.before).few _ c.dep_count.result c.dep_count.ensures refl
+loop-e-init : tie.Need-loop-e-init invariant-loop-e decreases-loop-e
+loop-e-init c = link_none _ (ok c.before.before).few _ c.dep_count-m.result c.dep_count-m.ensures refl
 
-sub-e : tie.Need-overflow-sub-e invariant-loop decreases-loop
-sub-e c = omega (arith, c.loop-test.true)
+overflow_sub-e : tie.Need-overflow_sub-e invariant-loop-e decreases-loop-e
+overflow_sub-e c = omega (arith, c.loop-e-test.true)
 
-abbrev start : tie.At-loop invariant-loop decreases-loop → tie.Start invariant-loop decreases-loop
+abbrev start : tie.At-loop-e invariant-loop-e decreases-loop-e → tie.Start invariant-loop-e decreases-loop-e
 start h = h.before.before.before
 
 -- the dependence of this turn
-here : (c : tie.In-loop invariant-loop decreases-loop) → c.before.loop.e - 1 < length (loop_of (start c.before).args.file.now).deps
-here c = omega (arith, c.loop-test.true, c.before.loop.invariant.within)
+here : (c : tie.In-loop-e invariant-loop-e decreases-loop-e) → c.before.loop-e.e - 1 < length (loop_of (start c.before).args.file.now).deps
+here c = omega (arith, c.loop-e-test.true, c.before.loop-e.invariant.within)
 
-later-end-requires : tie.Need-later-end-requires invariant-loop decreases-loop
-later-end-requires c κs = ((start c.before).pre, here c)
+later_end-o-requires : tie.Need-later_end-o-requires invariant-loop-e decreases-loop-e
+later_end-o-requires c κs = ((start c.before).pre, here c)
 
 -- its later operation
-inside : (c : tie.After-later-end invariant-loop decreases-loop) → c.later-end.result < size (loop_of (start c.before.before).args.file.now)
+inside : (c : tie.After-later_end-o invariant-loop-e decreases-loop-e) → c.later_end-o.result < size (loop_of (start c.before.before).args.file.now)
 inside c =
     let h = c.before.before in
-    let d = (ok (start h)).dep_ok (h.loop.e - 1) (here c.before) in omega (arith, c.later-end.ensures, d.source, d.target)
+    let d = (ok (start h)).dep_ok (h.loop-e.e - 1) (here c.before) in omega (arith, c.later_end-o.ensures, d.source, d.target)
 
 -- the numbers are small
-small : (c : tie.After-later-end invariant-loop decreases-loop) → (c.later-end.result < 64) × (c.before.before.loop.e - 1 < 256)
+small : (c : tie.After-later_end-o invariant-loop-e decreases-loop-e) → (c.later_end-o.result < 64) × (c.before.before.loop-e.e - 1 < 256)
 small c = let s = start c.before.before in omega (arith, inside c, (ok s).few, here c.before, (ok s).sparse)
 
-mul-links : tie.Need-overflow-mul-links invariant-loop decreases-loop
-mul-links c = omega (arith, small c)
+offset_bounds-links-o : tie.Need-offset_bounds-links-o invariant-loop-e decreases-loop-e
+offset_bounds-links-o c = omega (arith, small c)
 
-array-read-links : tie.Need-array-read-links invariant-loop decreases-loop
-array-read-links c = omega (arith, small c)
+bounds-links-o : tie.Need-bounds-links-o invariant-loop-e decreases-loop-e
+bounds-links-o c = omega (arith, small c)
 
-add-links : tie.Need-overflow-add-links invariant-loop decreases-loop
-add-links c = omega (arith, small c)
+overflow_add-links : tie.Need-overflow_add-links invariant-loop-e decreases-loop-e
+overflow_add-links c = omega (arith, small c)
 
-mul-links-2 : tie.Need-overflow-mul-links-2 invariant-loop decreases-loop
-mul-links-2 c = omega (arith, small c)
+offset_bounds-links-e : tie.Need-offset_bounds-links-e invariant-loop-e decreases-loop-e
+offset_bounds-links-e c = omega (arith, small c)
 
-array-write-links : tie.Need-array-write-links invariant-loop decreases-loop
-array-write-links c = omega (arith, small c)
+bounds-links-e : tie.Need-bounds-links-e invariant-loop-e decreases-loop-e
+bounds-links-e c = omega (arith, small c)
 
-cast-links-2 : tie.Need-overflow-cast-links-2 invariant-loop decreases-loop
-cast-links-2 c = omega (arith, small c)
+overflow_cast-links-in-loop-e : tie.Need-overflow_cast-links-in-loop-e invariant-loop-e decreases-loop-e
+overflow_cast-links-in-loop-e c = omega (arith, small c)
 
-mul-links-3 : tie.Need-overflow-mul-links-3 invariant-loop decreases-loop
-mul-links-3 c = omega (arith, small c)
+offset_bounds-links-o-in-loop-e : tie.Need-offset_bounds-links-o-in-loop-e invariant-loop-e decreases-loop-e
+offset_bounds-links-o-in-loop-e c = omega (arith, small c)
 
-array-write-links-2 : tie.Need-array-write-links-2 invariant-loop decreases-loop
-array-write-links-2 c = omega (arith, small c)
+bounds-links-o-in-loop-e : tie.Need-bounds-links-o-in-loop-e invariant-loop-e decreases-loop-e
+bounds-links-o-in-loop-e c = omega (arith, small c)
 
-loop-less : tie.Need-loop-smaller invariant-loop decreases-loop
-loop-less c = omega (arith, c.before.loop-test.true)
+loop-e-smaller : tie.Need-loop-e-smaller invariant-loop-e decreases-loop-e
+loop-e-smaller c = omega (arith, c.before.loop-e-test.true)
 
-loop-again : tie.Need-loop-preserved invariant-loop decreases-loop
-loop-again c =
+loop-e-preserved : tie.Need-loop-e-preserved invariant-loop-e decreases-loop-e
+loop-e-preserved c =
     let i = c.before in
     let h = i.before in
     let o = ok (start h) in
-    link_more _ o.few h.loop.links h.loop.e (h.loop.e - 1) c.later-end.result h.loop.invariant (omega (arith, i.loop-test.true)) c.later-end.ensures (inside c) o.sparse
+    link_more _ o.few h.loop-e.links h.loop-e.e (h.loop-e.e - 1) c.later_end-o.result h.loop-e.invariant (omega (arith, i.loop-e-test.true)) c.later_end-o.ensures (inside c) o.sparse
 
-returns : tie.Need-returns invariant-loop decreases-loop
-returns c = let h = c.before in link_all _ (ok (start h)).few h.loop.links h.loop.e h.loop.invariant (omega (arith, c.loop-test.false))
+returns : tie.Need-returns invariant-loop-e decreases-loop-e
+returns c = let h = c.before in link_all _ (ok (start h)).few h.loop-e.links h.loop-e.e h.loop-e.invariant (omega (arith, c.loop-e-test.false))
 
 pub link_spec : {M : Type 1} → statement M
 link_spec =
     tie.close
     (tie.spec
-    invariant-loop
-    decreases-loop
-    dep-count-requires
-    cast-links
-    loop-holds
-    sub-e
-    later-end-requires
-    mul-links
-    array-read-links
-    add-links
-    mul-links-2
-    array-write-links
-    cast-links-2
-    mul-links-3
-    array-write-links-2
-    loop-less
-    loop-again
+    invariant-loop-e
+    decreases-loop-e
+    dep_count-m-requires
+    overflow_cast-links
+    loop-e-init
+    overflow_sub-e
+    later_end-o-requires
+    offset_bounds-links-o
+    bounds-links-o
+    overflow_add-links
+    offset_bounds-links-e
+    bounds-links-e
+    overflow_cast-links-in-loop-e
+    offset_bounds-links-o-in-loop-e
+    bounds-links-o-in-loop-e
+    loop-e-smaller
+    loop-e-preserved
     returns)

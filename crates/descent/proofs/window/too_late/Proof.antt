@@ -33,21 +33,21 @@ lag c = c.before.before.args.interval * c.distance.result
 lag_small : (c : tie.After-distance) → lag c ≤ 4096 * 15
 lag_small c = lag_le c.before.before.args.interval (dep_ok c.before.before) c.before.before.requires.3 c.distance.ensures
 
-mul-lag : tie.Need-overflow-mul-lag
-mul-lag c = omega (arith, lag_small c)
+overflow_mul-lag : tie.Need-overflow_mul-lag
+overflow_mul-lag c = omega (arith, lag_small c)
 
-cast-last : tie.Need-overflow-cast-last
-cast-last c = search rules
+overflow_cast-last : tie.Need-overflow_cast-last
+overflow_cast-last c = search rules
 
-cast-last-2 : tie.Need-overflow-cast-last-2
-cast-last-2 c = omega (arith, lag_small c)
+overflow_cast-last-2 : tie.Need-overflow_cast-last-2
+overflow_cast-last-2 c = omega (arith, lag_small c)
 
 -- the sum and `last` as differences of naturals
 sum_is : (c : tie.After-distance) → Is (to_z w32 c.before.before.args.start +ℤ to_z w32 (lag c)) (c.before.before.args.start + lag c) (0 + 0)
 sum_is c = is_add (is_cast w32 c.before.before.args.start (omega arith)) (is_cast w32 (lag c) (omega (arith, lag_small c)))
 
-add-last : tie.Need-overflow-add-last
-add-last c = is_fits w32 (sum_is c) (omega (arith, lag_small c)) (omega arith)
+overflow_add-last : tie.Need-overflow_add-last
+overflow_add-last c = is_fits w32 (sum_is c) (omega (arith, lag_small c)) (omega arith)
 
 delay-requires : tie.Need-delay-requires
 delay-requires c κs = search rules
@@ -58,33 +58,33 @@ start c = c.before.before.before
 last_is : (c : tie.After-delay)
     → Is (to_z w32 (of_z w32 (to_z w32 (start c).args.start +ℤ to_z w32 (lag c.before))) -ℤ to_z w32 (of_z w32 c.delay.result))
     ((start c).args.start + lag c.before + minus (dep (start c)).delay) (0 + 0 + plus (dep (start c)).delay)
-last_is c = is_subtract (is_back w32 (add-last c.before) (sum_is c.before)) (is_got w32 c.delay.type-inv c.delay.ensures (parts _))
+last_is c = is_subtract (is_back w32 (overflow_add-last c.before) (sum_is c.before)) (is_got w32 c.delay.type_inv c.delay.ensures (parts _))
 
-sub-last : tie.Need-overflow-sub-last
-sub-last c = is_fits w32 (last_is c) (omega (arith, delay_early (dep_ok (start c)), lag_small c.before)) (omega (arith, delay_late (dep_ok (start c))))
+overflow_sub-last : tie.Need-overflow_sub-last
+overflow_sub-last c = is_fits w32 (last_is c) (omega (arith, delay_early (dep_ok (start c)), lag_small c.before)) (omega (arith, delay_late (dep_ok (start c))))
+
+returns-then-last-lt0 : tie.Need-returns-then-last-lt0
+returns-then-last-lt0 c s =
+    let a = (start c.before).args in
+    let d = dep (start c.before) in
+    leb_same (suc s) 0 (s + plus d.delay) (a.start + lag c.before.before + minus d.delay)
+    (λ l. omega arith)
+    (λ l. omega (arith, below_zero (is_back w32 (overflow_sub-last c.before) (last_is c.before)) c.if-last-lt0.true))
+    ∙ holds_lag a.interval d s a.start c.before.before.distance.ensures
+
+overflow_cast-result : tie.Need-overflow_cast-result
+overflow_cast-result c =
+    cast_fits w64 (is_back w32 (overflow_sub-last c.before) (last_is c.before)) c.if-last-lt0.false (omega (arith, delay_early (dep_ok (start c.before)), lag_small c.before.before))
+
+overflow_add-result : tie.Need-overflow_add-result
+overflow_add-result c =
+    omega (arith, cast_is (is_back w32 (overflow_sub-last c.before) (last_is c.before)) c.if-last-lt0.false, delay_early (dep_ok (start c.before)), lag_small c.before.before)
 
 returns : tie.Need-returns
 returns c s =
     let a = (start c.before).args in
     let d = dep (start c.before) in
-    leb_same (suc s) 0 (s + plus d.delay) (a.start + lag c.before.before + minus d.delay)
-    (λ l. omega arith)
-    (λ l. omega (arith, below_zero (is_back w32 (sub-last c.before) (last_is c.before)) c.if1.true))
-    ∙ holds_lag a.interval d s a.start c.before.before.distance.ensures
-
-cast-result : tie.Need-overflow-cast-result
-cast-result c =
-    cast_fits w64 (is_back w32 (sub-last c.before) (last_is c.before)) c.if1.false (omega (arith, delay_early (dep_ok (start c.before)), lag_small c.before.before))
-
-add-result : tie.Need-overflow-add-result
-add-result c =
-    omega (arith, cast_is (is_back w32 (sub-last c.before) (last_is c.before)) c.if1.false, delay_early (dep_ok (start c.before)), lag_small c.before.before)
-
-returns-2 : tie.Need-returns-2
-returns-2 c s =
-    let a = (start c.before).args in
-    let d = dep (start c.before) in
-    let k = cast_is (is_back w32 (sub-last c.before) (last_is c.before)) c.if1.false in
+    let k = cast_is (is_back w32 (overflow_sub-last c.before) (last_is c.before)) c.if-last-lt0.false in
     leb_same (suc s) _ (s + plus d.delay) (a.start + lag c.before.before + minus d.delay) (λ l. omega (arith, k)) (λ l. omega (arith, k))
     ∙ holds_lag a.interval d s a.start c.before.before.distance.ensures
 
@@ -93,13 +93,13 @@ too_late_spec =
     tie.close
     (tie.spec
     distance-requires
-    mul-lag
-    cast-last
-    cast-last-2
-    add-last
+    overflow_mul-lag
+    overflow_cast-last
+    overflow_cast-last-2
+    overflow_add-last
     delay-requires
-    sub-last
-    returns
-    cast-result
-    add-result
-    returns-2)
+    overflow_sub-last
+    returns-then-last-lt0
+    overflow_cast-result
+    overflow_add-result
+    returns)

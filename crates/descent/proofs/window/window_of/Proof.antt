@@ -14,128 +14,128 @@ use Rattle.descent.proofs.Links.{to_next}
 use Rattle.descent.proofs.window.window_of.Statement.{statement}
 use Rattle.descent.proofs.window.window_of.Tie as tie
 
-abbrev invariant-loop : tie.invariant-loop
-invariant-loop file links op starts interval horizon m w₀ e₀ w e =
+abbrev invariant-loop-e : tie.invariant-loop-e
+invariant-loop-e file links op starts interval horizon m w₀ e₀ w e =
     (e ≤ m) × (e < m → later_end (loop_of file) e ≡ op) × WindowIs (loop_of file) interval (take op starts) horizon e w.from w.to
 
-abbrev decreases-loop : tie.decreases-loop
-decreases-loop file links op starts interval horizon m w₀ e₀ w e = m - e
+abbrev decreases-loop-e : tie.decreases-loop-e
+decreases-loop-e file links op starts interval horizon m w₀ e₀ w e = m - e
 
-dep-count-requires : tie.Need-dep-count-requires invariant-loop decreases-loop
-dep-count-requires c κs = c.before.requires.0
+dep_count-m-requires : tie.Need-dep_count-m-requires invariant-loop-e decreases-loop-e
+dep_count-m-requires c κs = c.before.requires.0
 
 -- the loop is in order
-ok : (s : tie.Start invariant-loop decreases-loop) → LoopOk (loop_of s.args.file.now)
+ok : (s : tie.Start invariant-loop-e decreases-loop-e) → LoopOk (loop_of s.args.file.now)
 ok s = accepted_ok s.args.file.now s.requires.0
 
-mul-e : tie.Need-overflow-mul-e invariant-loop decreases-loop
-mul-e c = let s = c.before.before in omega (arith, s.requires.2, (ok s).few)
+offset_bounds-links-op : tie.Need-offset_bounds-links-op invariant-loop-e decreases-loop-e
+offset_bounds-links-op c = let s = c.before.before in omega (arith, s.requires.2, (ok s).few)
 
-element-copy-out-e : tie.Need-element-copy-out-e invariant-loop decreases-loop
-element-copy-out-e c = let s = c.before.before in omega (arith, s.requires.2, (ok s).few)
+bounds-links-op : tie.Need-bounds-links-op invariant-loop-e decreases-loop-e
+bounds-links-op c = let s = c.before.before in omega (arith, s.requires.2, (ok s).few)
 
 -- the entry of the operation
-first : (c : tie.After-dep-count invariant-loop decreases-loop)
+first : (c : tie.After-dep_count-m invariant-loop-e decreases-loop-e)
     → let s = c.before.before in NextDep (loop_of s.args.file.now) s.args.op 0 (get_or s.args.links.now s.args.op 0)
 first c = let s = c.before.before in s.requires.1.head s.args.op s.requires.2
 
-cast-e : tie.Need-overflow-cast-e invariant-loop decreases-loop
-cast-e c = omega (arith, (first c.before).within, (ok c.before.before.before).sparse)
+overflow_cast-e : tie.Need-overflow_cast-e invariant-loop-e decreases-loop-e
+overflow_cast-e c = omega (arith, (first c.before).within, (ok c.before.before.before).sparse)
 
-loop-holds : tie.Need-loop-init invariant-loop decreases-loop
-loop-holds c =
+loop-e-init : tie.Need-loop-e-init invariant-loop-e decreases-loop-e
+loop-e-init c =
     let d = c.before in
     let s = d.before.before in
     let n = first d in (
-      omega (arith, n.within, d.dep_count.ensures),
-      λ l. n.is (omega (arith, d.dep_count.ensures)),
+      omega (arith, n.within, d.dep_count-m.ensures),
+      λ l. n.is (omega (arith, d.dep_count-m.ensures)),
       to_next _ _ s.args.op s.args.starts.now s.requires.3 _ _ _ 0 _ n (window_first _ _ _ _),
     )
 
-abbrev start : tie.At-loop invariant-loop decreases-loop → tie.Start invariant-loop decreases-loop
+abbrev start : tie.At-loop-e invariant-loop-e decreases-loop-e → tie.Start invariant-loop-e decreases-loop-e
 start h = h.before.before.before.before
 
 -- e is a dependence
-here : (c : tie.In-loop invariant-loop decreases-loop) → c.before.loop.e < length (loop_of (start c.before).args.file.now).deps
-here c = omega (arith, c.loop-test.true, c.before.before.before.dep_count.ensures)
+here : (c : tie.In-loop-e invariant-loop-e decreases-loop-e) → c.before.loop-e.e-1 < length (loop_of (start c.before).args.file.now).deps
+here c = omega (arith, c.loop-e-test.true, c.before.before.before.dep_count-m.ensures)
 
-narrowed-requires : tie.Need-narrowed-requires invariant-loop decreases-loop
-narrowed-requires c κs = let p = (start c.before).pre in (p.0, here c, p.2, p.3, p.4, p.5)
+narrowed-w-requires : tie.Need-narrowed-w-requires invariant-loop-e decreases-loop-e
+narrowed-w-requires c κs = let p = (start c.before).pre in (p.0, here c, p.2, p.3, p.4, p.5)
 
 -- one of at most 256
-small : (c : tie.In-loop invariant-loop decreases-loop) → c.before.loop.e < 256
+small : (c : tie.In-loop-e invariant-loop-e decreases-loop-e) → c.before.loop-e.e-1 < 256
 small c = omega (arith, here c, (ok (start c.before)).sparse)
 
-add-e : tie.Need-overflow-add-e invariant-loop decreases-loop
-add-e c = omega (arith, small c.before)
+overflow_add-e : tie.Need-overflow_add-e invariant-loop-e decreases-loop-e
+overflow_add-e c = omega (arith, small c.before)
 
-mul-e-2 : tie.Need-overflow-mul-e-2 invariant-loop decreases-loop
-mul-e-2 c = omega (arith, small c.before)
+offset_bounds-links-e : tie.Need-offset_bounds-links-e invariant-loop-e decreases-loop-e
+offset_bounds-links-e c = omega (arith, small c.before)
 
-element-copy-out-e-2 : tie.Need-element-copy-out-e-2 invariant-loop decreases-loop
-element-copy-out-e-2 c = omega (arith, small c.before)
+bounds-links-e : tie.Need-bounds-links-e invariant-loop-e decreases-loop-e
+bounds-links-e c = omega (arith, small c.before)
 
 -- the entry of e: its later operation is op
-next : (c : tie.In-loop invariant-loop decreases-loop)
+next : (c : tie.In-loop-e invariant-loop-e decreases-loop-e)
     → let h = c.before in
     let s = start h in
-    NextDep (loop_of s.args.file.now) s.args.op (h.loop.e + 1) (get_or s.args.links.now (64 + h.loop.e) 0)
+    NextDep (loop_of s.args.file.now) s.args.op (h.loop-e.e-1 + 1) (get_or s.args.links.now (64 + h.loop-e.e-1) 0)
 next c =
     let h = c.before in
     let s = start h in
-    subst (λ (o : ℕ). NextDep (loop_of s.args.file.now) o (h.loop.e + 1) (get_or s.args.links.now (64 + h.loop.e) 0)) (h.loop.invariant.1 c.loop-test.true) (s.pre.1.next h.loop.e (here c))
+    subst (λ (o : ℕ). NextDep (loop_of s.args.file.now) o (h.loop-e.e-1 + 1) (get_or s.args.links.now (64 + h.loop-e.e-1) 0)) (h.loop-e.invariant.1 c.loop-e-test.true) (s.pre.1.next h.loop-e.e-1 (here c))
 
-cast-e-2 : tie.Need-overflow-cast-e-2 invariant-loop decreases-loop
-cast-e-2 c = let i = c.before.before in omega (arith, (next i).within, (ok (start i.before)).sparse)
+overflow_cast-e-in-loop-e : tie.Need-overflow_cast-e-in-loop-e invariant-loop-e decreases-loop-e
+overflow_cast-e-in-loop-e c = let i = c.before.before in omega (arith, (next i).within, (ok (start i.before)).sparse)
 
-loop-less : tie.Need-loop-smaller invariant-loop decreases-loop
-loop-less c = let i = c.before.before in omega (arith, (next i).behind, i.loop-test.true)
+loop-e-smaller : tie.Need-loop-e-smaller invariant-loop-e decreases-loop-e
+loop-e-smaller c = let i = c.before.before in omega (arith, (next i).behind, i.loop-e-test.true)
 
-loop-again : tie.Need-loop-preserved invariant-loop decreases-loop
-loop-again c =
+loop-e-preserved : tie.Need-loop-e-preserved invariant-loop-e decreases-loop-e
+loop-e-preserved c =
     let i = c.before.before in
     let h = i.before in
     let s = start h in
-    let m = h.before.before.dep_count.ensures in (
+    let m = h.before.before.dep_count-m.ensures in (
       omega (arith, (next i).within, m),
       λ l. (next i).is (omega (arith, m)),
-      to_next _ _ s.args.op s.args.starts.now s.pre.3 _ _ _ (h.loop.e + 1) _ (next i) (window_next _ _ _ _ h.loop.e _ _ _ _ h.loop.invariant.2 c.before.narrowed.ensures),
+      to_next _ _ s.args.op s.args.starts.now s.pre.3 _ _ _ (h.loop-e.e-1 + 1) _ (next i) (window_next _ _ _ _ h.loop-e.e-1 _ _ _ _ h.loop-e.invariant.2 c.before.narrowed-w.ensures),
     )
 
 -- after the loop, the window is that of all dependences
-whole : (c : tie.After-loop invariant-loop decreases-loop)
+whole : (c : tie.After-loop-e invariant-loop-e decreases-loop-e)
     → let h = c.before in
     let a = (start h).args in
-    WindowIs (loop_of a.file.now) a.interval (take a.op a.starts.now) a.horizon (length (loop_of a.file.now).deps) h.loop.w.from h.loop.w.to
+    WindowIs (loop_of a.file.now) a.interval (take a.op a.starts.now) a.horizon (length (loop_of a.file.now).deps) h.loop-e.w.from h.loop-e.w.to
 whole c =
     let h = c.before in
-    let n : h.loop.e ≡ length (loop_of (start h).args.file.now).deps = omega (arith, h.before.before.dep_count.ensures, c.loop-test.false, h.loop.invariant.0) in
-    rw n at h.loop.invariant.2
+    let n : h.loop-e.e-1 ≡ length (loop_of (start h).args.file.now).deps = omega (arith, h.before.before.dep_count-m.ensures, c.loop-e-test.false, h.loop-e.invariant.0) in
+    rw n at h.loop-e.invariant.2
 
-returns : tie.Need-returns invariant-loop decreases-loop
-returns c = record { is = window_empty _ _ _ _ _ _ _ (whole c.before.before) c.if1.true; ordered = omega arith; near = omega arith }
+returns-then-w : tie.Need-returns-then-w invariant-loop-e decreases-loop-e
+returns-then-w c = record { is = window_empty _ _ _ _ _ _ _ (whole c.before.before) c.if-w.true; ordered = omega arith; near = omega arith }
 
-returns-2 : tie.Need-returns-2 invariant-loop decreases-loop
-returns-2 c =
-    let w = whole c.before.before in record { is = w; ordered = omega (arith, c.if1.false); near = window_end _ _ _ _ _ _ _ w c.if1.false }
+returns : tie.Need-returns invariant-loop-e decreases-loop-e
+returns c =
+    let w = whole c.before.before in record { is = w; ordered = omega (arith, c.if-w.false); near = window_end _ _ _ _ _ _ _ w c.if-w.false }
 
 pub window_of_spec : {M : Type 1} → statement M
 window_of_spec =
     tie.close
     (tie.spec
-    invariant-loop
-    decreases-loop
-    dep-count-requires
-    mul-e
-    element-copy-out-e
-    cast-e
-    loop-holds
-    narrowed-requires
-    add-e
-    mul-e-2
-    element-copy-out-e-2
-    cast-e-2
-    loop-less
-    loop-again
-    returns
-    returns-2)
+    invariant-loop-e
+    decreases-loop-e
+    dep_count-m-requires
+    offset_bounds-links-op
+    bounds-links-op
+    overflow_cast-e
+    loop-e-init
+    narrowed-w-requires
+    overflow_add-e
+    offset_bounds-links-e
+    bounds-links-e
+    overflow_cast-e-in-loop-e
+    loop-e-smaller
+    loop-e-preserved
+    returns-then-w
+    returns)

@@ -7,68 +7,68 @@ use Rattle.iterative.proofs.Schedules.{untouched, untouched_again, ready_again}
 use Rattle.iterative.proofs.attempt.attempt_all.Statement.{statement}
 use Rattle.iterative.proofs.attempt.attempt_all.Tie as tie
 
-abbrev invariant-loop : tie.invariant-loop
-invariant-loop file n interval horizon tries starts₀ rows₀ high early order₀ starts rows order = (order ≤ tries) × Untouched starts₀ rows₀ starts rows
+abbrev invariant-loop-order : tie.invariant-loop-order
+invariant-loop-order file n interval horizon tries starts₀ rows₀ high early order₀ starts rows order = (order ≤ tries) × Untouched starts₀ rows₀ starts rows
 
-abbrev decreases-loop : tie.decreases-loop
-decreases-loop file n interval horizon tries starts₀ rows₀ high early order₀ starts rows order = tries - order
+abbrev decreases-loop-order : tie.decreases-loop-order
+decreases-loop-order file n interval horizon tries starts₀ rows₀ high early order₀ starts rows order = tries - order
 
-paths-requires : tie.Need-paths-requires invariant-loop decreases-loop
+paths-requires : tie.Need-paths-requires invariant-loop-order decreases-loop-order
 paths-requires c κs = let q = c.before.before.before.requires in (q.accepted, q.numbers.short)
 
-paths-requires-2 : tie.Need-paths-requires-2 invariant-loop decreases-loop
+paths-requires-2 : tie.Need-paths-requires-2 invariant-loop-order decreases-loop-order
 paths-requires-2 c κs = let q = c.before.before.before.before.before.requires in (q.accepted, q.numbers.short)
 
-loop-holds : tie.Need-loop-init invariant-loop decreases-loop
-loop-holds c = (omega arith, untouched _ _)
+loop-order-init : tie.Need-loop-order-init invariant-loop-order decreases-loop-order
+loop-order-init c = (omega arith, untouched _ _)
 
 -- the function's entry, as a turn sees it
-abbrev entry : tie.At-loop invariant-loop decreases-loop → tie.Start invariant-loop decreases-loop
+abbrev entry : tie.At-loop-order invariant-loop-order decreases-loop-order → tie.Start invariant-loop-order decreases-loop-order
 entry a = a.before.before.before.before.before.before.before
 
-attempt-requires : tie.Need-attempt-requires invariant-loop decreases-loop
-attempt-requires c κs = let a = c.before.before.before.before.before in ready_again (entry a).requires a.loop.invariant.1
+attempt-requires : tie.Need-attempt-requires invariant-loop-order decreases-loop-order
+attempt-requires c κs = let a = c.before.before.before.before.before in ready_again (entry a).requires a.loop-order.invariant.1
 
 -- after an attempt
-left_by : (c : tie.After-attempt invariant-loop decreases-loop) → let s = (entry c.before.before.before.before.before.before).args in
-    Untouched s.starts.now s.rows.now c.attempt.new.1.1.1.1.1.1.1.0 c.attempt.new.1.1.1.1.1.1.1.1.0
-left_by c = untouched_again c.before.before.before.before.before.before.loop.invariant.1 c.attempt.ensures.untouched
+left_by : (c : tie.After-attempt invariant-loop-order decreases-loop-order) → let s = (entry c.before.before.before.before.before.before).args in
+    Untouched s.starts.now s.rows-1.now c.attempt.new.1.1.1.1.1.1.1.0 c.attempt.new.1.1.1.1.1.1.1.1.0
+left_by c = untouched_again c.before.before.before.before.before.before.loop-order.invariant.1 c.attempt.ensures.untouched
 
-same_length : tie.Need-same-length invariant-loop decreases-loop
-same_length c = (left_by c.before.before.before).rows_length
+shape_of-rows-then-attempt : tie.Need-shape_of-rows-then-attempt invariant-loop-order decreases-loop-order
+shape_of-rows-then-attempt c = (left_by c.before.before.before).rows_length
 
-returns : tie.Need-returns invariant-loop decreases-loop
-returns c = let w = c.before.before.before in record { found = λ e. w.attempt.ensures.found c.if1.true; untouched = left_by w }
+returns-then-attempt : tie.Need-returns-then-attempt invariant-loop-order decreases-loop-order
+returns-then-attempt c = let w = c.before.before.before in record { found = λ e. w.attempt.ensures.found c.if-attempt.true; untouched = left_by w }
 
-add-order : tie.Need-overflow-add-order invariant-loop decreases-loop
-add-order c = omega arith
+overflow_add-order : tie.Need-overflow_add-order invariant-loop-order decreases-loop-order
+overflow_add-order c = omega arith
 
-loop-less : tie.Need-loop-smaller invariant-loop decreases-loop
-loop-less c = omega arith
+loop-order-smaller : tie.Need-loop-order-smaller invariant-loop-order decreases-loop-order
+loop-order-smaller c = omega arith
 
-loop-again : tie.Need-loop-preserved invariant-loop decreases-loop
-loop-again c = (omega arith, left_by c.before.before.before)
+loop-order-preserved : tie.Need-loop-order-preserved invariant-loop-order decreases-loop-order
+loop-order-preserved c = (omega arith, left_by c.before.before.before)
 
-same-length-2 : tie.Need-same-length-2 invariant-loop decreases-loop
-same-length-2 c = c.before.loop.invariant.1.rows_length
+shape_of-rows : tie.Need-shape_of-rows invariant-loop-order decreases-loop-order
+shape_of-rows c = c.before.loop-order.invariant.1.rows_length
 
-returns-2 : tie.Need-returns-2 invariant-loop decreases-loop
-returns-2 c = record { found = λ e. let z : ◌≡◌ {A = ℕ} 0 1 = cc in absurd (omega arith); untouched = c.before.loop.invariant.1 }
+returns : tie.Need-returns invariant-loop-order decreases-loop-order
+returns c = record { found = λ e. let z : ◌≡◌ {A = ℕ} 0 1 = cc in absurd (omega arith); untouched = c.before.loop-order.invariant.1 }
 
 pub attempt_all_spec : {M : Type 1} → statement M
 attempt_all_spec =
     tie.close
     (tie.spec
-    invariant-loop
-    decreases-loop
+    invariant-loop-order
+    decreases-loop-order
     paths-requires
     paths-requires-2
-    loop-holds
+    loop-order-init
     attempt-requires
-    same_length
-    returns
-    add-order
-    loop-less
-    loop-again
-    same-length-2
-    returns-2)
+    shape_of-rows-then-attempt
+    returns-then-attempt
+    overflow_add-order
+    loop-order-smaller
+    loop-order-preserved
+    shape_of-rows
+    returns)

@@ -9,89 +9,89 @@ use Rattle.iterative.proofs.Schedules.{kept_again, kept_length}
 use Rattle.iterative.proofs.attempt.put_all.Statement.{statement}
 use Rattle.iterative.proofs.attempt.put_all.Tie as tie
 
-abbrev invariant-loop : tie.invariant-loop
-invariant-loop file n interval horizon order high early starts₀ rows₀ ranks gridded again₀ left₀ starts rows again left = Kept file interval horizon rows₀ starts rows
+abbrev invariant-loop-ranks : tie.invariant-loop-ranks
+invariant-loop-ranks file n interval horizon order high early starts₀ rows₀ ranks gridded again₀ left₀ starts rows again left = Kept file interval horizon rows₀ starts rows
 
-abbrev decreases-loop : tie.decreases-loop
-decreases-loop file n interval horizon order high early starts₀ rows₀ ranks gridded again₀ left₀ starts rows again left = left
+abbrev decreases-loop-ranks : tie.decreases-loop-ranks
+decreases-loop-ranks file n interval horizon order high early starts₀ rows₀ ranks gridded again₀ left₀ starts rows again left = left
 
-rank-all-requires : tie.Need-rank-all-requires invariant-loop decreases-loop
-rank-all-requires c κs = let p = c.before.before.before.requires in (p.0.accepted, p.1)
+rank_all-requires : tie.Need-rank_all-requires invariant-loop-ranks decreases-loop-ranks
+rank_all-requires c κs = let p = c.before.before.before.requires in (p.0.accepted, p.1)
 
-mul_left : tie.Need-overflow-mul-left invariant-loop decreases-loop
-mul_left c = let s = c.before.before.before.before in omega (arith, s.requires.1, few_operations s.args.file.now s.requires.0.accepted)
+overflow_mul-left : tie.Need-overflow_mul-left invariant-loop-ranks decreases-loop-ranks
+overflow_mul-left c = let s = c.before.before.before.before in omega (arith, s.requires.1, few_operations s.args.file.now s.requires.0.accepted)
 
-loop-holds : tie.Need-loop-init invariant-loop decreases-loop
-loop-holds c = record { board = c.before.before.before.before.requires.0; rest = refl }
+loop-ranks-init : tie.Need-loop-ranks-init invariant-loop-ranks decreases-loop-ranks
+loop-ranks-init c = record { board = c.before.before.before.before.requires.0; rest = refl }
 
 -- the function's entry, as a turn sees it
-abbrev entry : tie.At-loop invariant-loop decreases-loop → tie.Start invariant-loop decreases-loop
+abbrev entry : tie.At-loop-ranks invariant-loop-ranks decreases-loop-ranks → tie.Start invariant-loop-ranks decreases-loop-ranks
 entry a = a.before.before.before.before.before
 
 -- the rows are as many as before
-as_long : (a : tie.At-loop invariant-loop decreases-loop) → length a.loop.rows ≡ length (entry a).args.rows.now
-as_long a = kept_length (entry a).requires.0 a.loop.invariant
+as_long : (a : tie.At-loop-ranks invariant-loop-ranks decreases-loop-ranks) → length a.loop-ranks.rows-1 ≡ length (entry a).args.rows-1.now
+as_long a = kept_length (entry a).requires.0 a.loop-ranks.invariant
 
-pick-requires : tie.Need-pick-requires invariant-loop decreases-loop
-pick-requires c κs =
+pick-op-requires : tie.Need-pick-op-requires invariant-loop-ranks decreases-loop-ranks
+pick-op-requires c κs =
     let a = c.before.before in
-    let b = a.loop.invariant.board in
+    let b = a.loop-ranks.invariant.board in
     (omega (arith, (entry a).requires.1, few_operations (entry a).args.file.now b.accepted), b.sane.whole)
 
-same_length : tie.Need-same-length invariant-loop decreases-loop
-same_length c = as_long c.before.before.before.before
+shape_of-rows-then-op-n : tie.Need-shape_of-rows-then-op-n invariant-loop-ranks decreases-loop-ranks
+shape_of-rows-then-op-n c = as_long c.before.before.before.before
 
-returns : tie.Need-returns invariant-loop decreases-loop
-returns c = record { kept = c.before.before.before.before.loop.invariant; all = λ e. c.before.pick.ensures.none_left c.if1.true }
+returns-then-op-n : tie.Need-returns-then-op-n invariant-loop-ranks decreases-loop-ranks
+returns-then-op-n c = record { kept = c.before.before.before.before.loop-ranks.invariant; all = λ e. c.before.pick-op.ensures.none_left c.if-op-n.true }
 
-same-length-2 : tie.Need-same-length-2 invariant-loop decreases-loop
-same-length-2 c = as_long c.before.before.before.before.before
+shape_of-rows-then-left-eq0 : tie.Need-shape_of-rows-then-left-eq0 invariant-loop-ranks decreases-loop-ranks
+shape_of-rows-then-left-eq0 c = as_long c.before.before.before.before.before
 
-returns-2 : tie.Need-returns-2 invariant-loop decreases-loop
-returns-2 c = record { kept = c.before.before.before.before.before.loop.invariant; all = λ e. true_false (sym e) }
+returns-then-left-eq0 : tie.Need-returns-then-left-eq0 invariant-loop-ranks decreases-loop-ranks
+returns-then-left-eq0 c = record { kept = c.before.before.before.before.before.loop-ranks.invariant; all = λ e. true_false (sym e) }
 
-sub-left : tie.Need-overflow-sub-left invariant-loop decreases-loop
-sub-left c = omega arith
+overflow_sub-left : tie.Need-overflow_sub-left invariant-loop-ranks decreases-loop-ranks
+overflow_sub-left c = omega arith
 
-step-requires : tie.Need-step-requires invariant-loop decreases-loop
+step-requires : tie.Need-step-requires invariant-loop-ranks decreases-loop-ranks
 step-requires c κs =
     let e = c.before.before.before.before in
     let a = e.before.before.before.before in
-    (a.loop.invariant.board, omega (arith, (e.before.pick.ensures.highest e.if1.false).inside, (entry a).requires.1))
+    (a.loop-ranks.invariant.board, omega (arith, (e.before.pick-op.ensures.highest e.if-op-n.false).inside, (entry a).requires.1))
 
 -- the turn's beginning, from after the step
-abbrev turn : tie.After-step invariant-loop decreases-loop → tie.At-loop invariant-loop decreases-loop
+abbrev turn : tie.After-step invariant-loop-ranks decreases-loop-ranks → tie.At-loop-ranks invariant-loop-ranks decreases-loop-ranks
 turn c = c.before.before.before.before.before.before.before.before.before
 
-same-length-3 : tie.Need-same-length-3 invariant-loop decreases-loop
-same-length-3 c = let w = c.before.before.before in kept_length (entry (turn w)).pre.0 (kept_again (turn w).loop.invariant w.step.ensures)
+shape_of-rows-then-not-step : tie.Need-shape_of-rows-then-not-step invariant-loop-ranks decreases-loop-ranks
+shape_of-rows-then-not-step c = let w = c.before.before.before in kept_length (entry (turn w)).pre.0 (kept_again (turn w).loop-ranks.invariant w.step.ensures)
 
-returns-3 : tie.Need-returns-3 invariant-loop decreases-loop
-returns-3 c = let w = c.before.before.before in record { kept = kept_again (turn w).loop.invariant w.step.ensures; all = λ e. true_false (sym e) }
+returns-then-not-step : tie.Need-returns-then-not-step invariant-loop-ranks decreases-loop-ranks
+returns-then-not-step c = let w = c.before.before.before in record { kept = kept_again (turn w).loop-ranks.invariant w.step.ensures; all = λ e. true_false (sym e) }
 
-loop-less : tie.Need-loop-smaller invariant-loop decreases-loop
-loop-less c = omega arith
+loop-ranks-smaller : tie.Need-loop-ranks-smaller invariant-loop-ranks decreases-loop-ranks
+loop-ranks-smaller c = omega arith
 
-loop-again : tie.Need-loop-preserved invariant-loop decreases-loop
-loop-again c = let w = c.before.before.before in kept_again (turn w).loop.invariant w.step.ensures
+loop-ranks-preserved : tie.Need-loop-ranks-preserved invariant-loop-ranks decreases-loop-ranks
+loop-ranks-preserved c = let w = c.before.before.before in kept_again (turn w).loop-ranks.invariant w.step.ensures
 
 pub put_all_spec : {M : Type 1} → statement M
 put_all_spec =
     tie.close
     (tie.spec
-    invariant-loop
-    decreases-loop
-    rank-all-requires
-    mul_left
-    loop-holds
-    pick-requires
-    same_length
-    returns
-    same-length-2
-    returns-2
-    sub-left
+    invariant-loop-ranks
+    decreases-loop-ranks
+    rank_all-requires
+    overflow_mul-left
+    loop-ranks-init
+    pick-op-requires
+    shape_of-rows-then-op-n
+    returns-then-op-n
+    shape_of-rows-then-left-eq0
+    returns-then-left-eq0
+    overflow_sub-left
     step-requires
-    same-length-3
-    returns-3
-    loop-less
-    loop-again)
+    shape_of-rows-then-not-step
+    returns-then-not-step
+    loop-ranks-smaller
+    loop-ranks-preserved)

@@ -11,63 +11,63 @@ use Rattle.iterative.proofs.attempt.step.Tie as tie
 inside : (s : tie.Start) → s.args.op < 64
 inside s = omega (arith, s.requires.1, few_operations s.args.file.now s.requires.0.accepted)
 
-mul_wide : tie.Need-overflow-mul-wide
-mul_wide c = omega (arith, inside c.before.before)
+offset_bounds-again-op : tie.Need-offset_bounds-again-op
+offset_bounds-again-op c = omega (arith, inside c.before.before)
 
-element-copy-out-wide : tie.Need-element-copy-out-wide
-element-copy-out-wide c = inside c.before.before
+bounds-again-op : tie.Need-bounds-again-op
+bounds-again-op c = inside c.before.before
 
 wide-requires : tie.Need-wide-requires
 wide-requires c κs = omega arith
 
-choose-start-requires : tie.Need-choose-start-requires
-choose-start-requires c κs = c.before.before.before.before.before.before.requires
+choose_start-start-requires : tie.Need-choose_start-start-requires
+choose_start-start-requires c κs = c.before.before.before.before.before.before.requires
 
-same_length : tie.Need-same-length
-same_length c = omega arith
+shape_of-rows-then-horizon-start : tie.Need-shape_of-rows-then-horizon-start
+shape_of-rows-then-horizon-start c = omega arith
 
-returns : tie.Need-returns
-returns c = record { board = c.before.before.before.before.before.before.before.before.requires.0; rest = refl }
+returns-then-horizon-start : tie.Need-returns-then-horizon-start
+returns-then-horizon-start c = record { board = c.before.before.before.before.before.before.before.before.requires.0; rest = refl }
 
 force-requires : tie.Need-force-requires
 force-requires c κs = let s = c.before.before.before.before.before.before.before.before.before.before in (omega arith, rw take-length s.requires.0)
 
 -- the function's entry, from its end
-abbrev entry : tie.After-slice-known2 → tie.Start
+abbrev entry : tie.After-slice_known-2-1 → tie.Start
 entry c = c.before.before.before.before.before.before.before.before.before.before.before.before.before
 
-add-again : tie.Need-overflow-add-again
-add-again c = omega arith
+overflow_add-again : tie.Need-overflow_add-again
+overflow_add-again c = omega arith
 
-cast-again : tie.Need-overflow-cast-again
-cast-again c = omega arith
+overflow_cast-again : tie.Need-overflow_cast-again
+overflow_cast-again c = omega arith
 
-mul-again : tie.Need-overflow-mul-again
-mul-again c = omega (arith, inside (entry c))
+offset_bounds-again-op-2 : tie.Need-offset_bounds-again-op-2
+offset_bounds-again-op-2 c = omega (arith, inside (entry c))
 
-element-write-again : tie.Need-element-write-preserved
-element-write-again c = inside (entry c)
+bounds-again-op-2 : tie.Need-bounds-again-op-2
+bounds-again-op-2 c = inside (entry c)
 
-same-length-2 : tie.Need-same-length-2
-same-length-2 c = omega arith
+shape_of-rows : tie.Need-shape_of-rows
+shape_of-rows c = omega arith
 
-returns-2 : tie.Need-returns-2
-returns-2 c = let d = c.before.before.force.ensures in record { board = rw take-length at d.board; rest = d.rest }
+returns : tie.Need-returns
+returns c = let d = c.before.before.force.ensures in record { board = rw take-length at d.board; rest = d.rest }
 
 pub step_spec : {M : Type 1} → statement M
 step_spec =
     tie.close
     (tie.spec
-    mul_wide
-    element-copy-out-wide
+    offset_bounds-again-op
+    bounds-again-op
     wide-requires
-    choose-start-requires
-    same_length
-    returns
+    choose_start-start-requires
+    shape_of-rows-then-horizon-start
+    returns-then-horizon-start
     force-requires
-    add-again
-    cast-again
-    mul-again
-    element-write-again
-    same-length-2
-    returns-2)
+    overflow_add-again
+    overflow_cast-again
+    offset_bounds-again-op-2
+    bounds-again-op-2
+    shape_of-rows
+    returns)

@@ -5,39 +5,39 @@ use borrow.Author.Tests.{eq-eqb, ne_eqb, lt-ltb, le-ltb}
 use Rattle.iterative.proofs.priority.higher.Statement.{statement}
 use Rattle.iterative.proofs.priority.higher.Tie as tie
 
+returns-then-best-n : tie.Need-returns-then-best-n
+returns-then-best-n c = let s = c.before in rw (eq-eqb s.args.best s.args.n c.if-best-n.true)
+
+offset_bounds-ranks-best : tie.Need-offset_bounds-ranks-best
+offset_bounds-ranks-best c = omega arith
+
+bounds-ranks-best : tie.Need-bounds-ranks-best
+bounds-ranks-best c = omega arith
+
+offset_bounds-ranks-o : tie.Need-offset_bounds-ranks-o
+offset_bounds-ranks-o c = omega arith
+
+bounds-ranks-o : tie.Need-bounds-ranks-o
+bounds-ranks-o c = omega arith
+
+returns-then-ranks-best : tie.Need-returns-then-ranks-best
+returns-then-ranks-best c =
+    let s = c.before.before.before.before in
+    rw (ne_eqb s.args.best s.args.n c.before.before.before.if-best-n.false, lt-ltb (get_or s.args.ranks.now s.args.best 0) (get_or s.args.ranks.now s.args.o 0) c.if-ranks-best.true)
+
 returns : tie.Need-returns
-returns c = let s = c.before in rw (eq-eqb s.args.best s.args.n c.if1.true)
-
-mul-if2 : tie.Need-overflow-mul-if2
-mul-if2 c = omega arith
-
-element-copy-out-if2 : tie.Need-element-copy-out-if2
-element-copy-out-if2 c = omega arith
-
-mul-if2-2 : tie.Need-overflow-mul-if2-2
-mul-if2-2 c = omega arith
-
-element-copy-out-if2-2 : tie.Need-element-copy-out-if2-2
-element-copy-out-if2-2 c = omega arith
-
-returns-2 : tie.Need-returns-2
-returns-2 c =
+returns c =
     let s = c.before.before.before.before in
-    rw (ne_eqb s.args.best s.args.n c.before.before.before.if1.false, lt-ltb (get_or s.args.ranks.now s.args.best 0) (get_or s.args.ranks.now s.args.o 0) c.if2.true)
-
-returns-3 : tie.Need-returns-3
-returns-3 c =
-    let s = c.before.before.before.before in
-    rw (ne_eqb s.args.best s.args.n c.before.before.before.if1.false, le-ltb (get_or s.args.ranks.now s.args.best 0) (get_or s.args.ranks.now s.args.o 0) c.if2.false)
+    rw (ne_eqb s.args.best s.args.n c.before.before.before.if-best-n.false, le-ltb (get_or s.args.ranks.now s.args.best 0) (get_or s.args.ranks.now s.args.o 0) c.if-ranks-best.false)
 
 pub higher_spec : {M : Type 1} → statement M
 higher_spec =
     tie.close
     (tie.spec
-    returns
-    mul-if2
-    element-copy-out-if2
-    mul-if2-2
-    element-copy-out-if2-2
-    returns-2
-    returns-3)
+    returns-then-best-n
+    offset_bounds-ranks-best
+    bounds-ranks-best
+    offset_bounds-ranks-o
+    bounds-ranks-o
+    returns-then-ranks-best
+    returns)

@@ -12,26 +12,26 @@ z s = 64 * (s.args.order % 256) + s.args.o % 64 + 1
 square : (s : tie.Start) → z s * z s ≤ 16384 * 16384
 square s = mul-le-mul {n₂ = 16384} {m₂ = 16384} (omega arith) (omega arith)
 
-mul-z : tie.Need-overflow-mul-z
-mul-z c = omega arith
+overflow_mul-z : tie.Need-overflow_mul-z
+overflow_mul-z c = omega arith
 
-add-z : tie.Need-overflow-add-z
-add-z c = omega arith
+overflow_add-z : tie.Need-overflow_add-z
+overflow_add-z c = omega arith
 
-add-z-2 : tie.Need-overflow-add-z-2
-add-z-2 c = omega arith
+overflow_add-z-2 : tie.Need-overflow_add-z-2
+overflow_add-z-2 c = omega arith
 
-mul-result : tie.Need-overflow-mul-result
-mul-result c = omega (arith, square c)
+overflow_mul-result : tie.Need-overflow_mul-result
+overflow_mul-result c = omega (arith, square c)
 
-mul-result-2 : tie.Need-overflow-mul-result-2
-mul-result-2 c = omega (arith, mul-le-mul {m₁ = z c} {n₂ = 16384 * 16384} {m₂ = 16384} (square c) (omega arith))
+overflow_mul-result-2 : tie.Need-overflow_mul-result-2
+overflow_mul-result-2 c = omega (arith, mul-le-mul {m₁ = z c} {n₂ = 16384 * 16384} {m₂ = 16384} (square c) (omega arith))
 
 spread-requires : tie.Need-spread-requires
 spread-requires c κs = tt
 
-rem-result : tie.Need-nonzero-rem-result
-rem-result c = omega arith
+nonzero_rem-result-2 : tie.Need-nonzero_rem-result-2
+nonzero_rem-result-2 c = omega arith
 
 returns : tie.Need-returns
 returns c = let s = c.before in omega (arith, mod-lt (z s * z s * z s % 65537) {m = c.spread.result} c.spread.ensures.0, c.spread.ensures.1)
@@ -39,4 +39,4 @@ returns c = let s = c.before in omega (arith, mod-lt (z s * z s * z s % 65537) {
 pub noise_spec : {M : Type 1} → statement M
 noise_spec =
     tie.close
-    (tie.spec mul-z add-z add-z-2 mul-result mul-result-2 spread-requires rem-result returns)
+    (tie.spec overflow_mul-z overflow_add-z overflow_add-z-2 overflow_mul-result overflow_mul-result-2 spread-requires nonzero_rem-result-2 returns)

@@ -4,43 +4,43 @@ use native.Mathlib.Omega.{arith}
 use Rattle.iterative.proofs.priority.paths.Statement.{statement}
 use Rattle.iterative.proofs.priority.paths.Tie as tie
 
-abbrev invariant-loop : tie.invariant-loop
-invariant-loop file n interval forward lengths₀ r₀ lengths r = r ≤ n
+abbrev invariant-loop-r : tie.invariant-loop-r
+invariant-loop-r file n interval forward lengths₀ r₀ lengths r = r ≤ n
 
-abbrev decreases-loop : tie.decreases-loop
-decreases-loop file n interval forward lengths₀ r₀ lengths r = n - r
+abbrev decreases-loop-r : tie.decreases-loop-r
+decreases-loop-r file n interval forward lengths₀ r₀ lengths r = n - r
 
-loop-holds : tie.Need-loop-init invariant-loop decreases-loop
-loop-holds c = omega arith
+loop-r-init : tie.Need-loop-r-init invariant-loop-r decreases-loop-r
+loop-r-init c = omega arith
 
-round-requires : tie.Need-round-requires invariant-loop decreases-loop
+round-requires : tie.Need-round-requires invariant-loop-r decreases-loop-r
 round-requires c κs = c.before.before.before.before.requires
 
-returns : tie.Need-returns invariant-loop decreases-loop
+returns-then-not-round : tie.Need-returns-then-not-round invariant-loop-r decreases-loop-r
+returns-then-not-round c = tt
+
+overflow_add-r : tie.Need-overflow_add-r invariant-loop-r decreases-loop-r
+overflow_add-r c = omega arith
+
+loop-r-smaller : tie.Need-loop-r-smaller invariant-loop-r decreases-loop-r
+loop-r-smaller c = omega arith
+
+loop-r-preserved : tie.Need-loop-r-preserved invariant-loop-r decreases-loop-r
+loop-r-preserved c = omega arith
+
+returns : tie.Need-returns invariant-loop-r decreases-loop-r
 returns c = tt
-
-add_r : tie.Need-overflow-add-r invariant-loop decreases-loop
-add_r c = omega arith
-
-loop-less : tie.Need-loop-smaller invariant-loop decreases-loop
-loop-less c = omega arith
-
-loop-again : tie.Need-loop-preserved invariant-loop decreases-loop
-loop-again c = omega arith
-
-returns-2 : tie.Need-returns-2 invariant-loop decreases-loop
-returns-2 c = tt
 
 pub paths_spec : {M : Type 1} → statement M
 paths_spec =
     tie.close
     (tie.spec
-    invariant-loop
-    decreases-loop
-    loop-holds
+    invariant-loop-r
+    decreases-loop-r
+    loop-r-init
     round-requires
-    returns
-    add_r
-    loop-less
-    loop-again
-    returns-2)
+    returns-then-not-round
+    overflow_add-r
+    loop-r-smaller
+    loop-r-preserved
+    returns)

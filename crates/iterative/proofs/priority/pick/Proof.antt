@@ -10,60 +10,60 @@ use Rattle.iterative.proofs.Picks.{pick_first, pick_within, pick_past, pick_next
 use Rattle.iterative.proofs.priority.pick.Statement.{statement}
 use Rattle.iterative.proofs.priority.pick.Tie as tie
 
-abbrev invariant-loop : tie.invariant-loop
-invariant-loop n starts ranks best₀ o₀ best o = (o ≤ n) × Picked n o starts ranks best
+abbrev invariant-loop-o : tie.invariant-loop-o
+invariant-loop-o n starts ranks best₀ o₀ best o = (o ≤ n) × Picked n o starts ranks best
 
-abbrev decreases-loop : tie.decreases-loop
-decreases-loop n starts ranks best₀ o₀ best o = n - o
+abbrev decreases-loop-o : tie.decreases-loop-o
+decreases-loop-o n starts ranks best₀ o₀ best o = n - o
 
-loop-holds : tie.Need-loop-init invariant-loop decreases-loop
-loop-holds c = (omega arith, pick_first _ _ _)
+loop-o-init : tie.Need-loop-o-init invariant-loop-o decreases-loop-o
+loop-o-init c = (omega arith, pick_first _ _ _)
 
-mul-if1 : tie.Need-overflow-mul-if1 invariant-loop decreases-loop
-mul-if1 c = omega arith
+offset_bounds-starts-o : tie.Need-offset_bounds-starts-o invariant-loop-o decreases-loop-o
+offset_bounds-starts-o c = omega arith
 
-element-copy-out-if1 : tie.Need-element-copy-out-if1 invariant-loop decreases-loop
-element-copy-out-if1 c = omega arith
+bounds-starts-o : tie.Need-bounds-starts-o invariant-loop-o decreases-loop-o
+bounds-starts-o c = omega arith
 
-higher-requires : tie.Need-higher-requires invariant-loop decreases-loop
-higher-requires c κs = let a = c.before.before.before in (a.before.requires.0, pick_within a.loop.invariant.1 a.loop.invariant.0, omega arith)
+higher-best-requires : tie.Need-higher-best-requires invariant-loop-o decreases-loop-o
+higher-best-requires c κs = let a = c.before.before.before in (a.before.requires.0, pick_within a.loop-o.invariant.1 a.loop-o.invariant.0, omega arith)
 
-add-o : tie.Need-overflow-add-o invariant-loop decreases-loop
-add-o c = omega arith
+overflow_add-o : tie.Need-overflow_add-o invariant-loop-o decreases-loop-o
+overflow_add-o c = omega arith
 
-loop-less : tie.Need-loop-smaller invariant-loop decreases-loop
-loop-less c = omega arith
+loop-o-smaller : tie.Need-loop-o-smaller invariant-loop-o decreases-loop-o
+loop-o-smaller c = omega arith
 
 -- the operation whose turn it is
-here : (i : tie.In-loop invariant-loop decreases-loop) → let a = i.before in get_or a.before.args.starts.now a.loop.o 0 ≡ get_or a.before.args.starts.now a.loop.o 65535
-here i = let a = i.before in get_or_within a.before.args.starts.now a.loop.o 0 65535 (omega arith)
+here : (i : tie.In-loop-o invariant-loop-o decreases-loop-o) → let a = i.before in get_or a.before.args.starts.now a.loop-o.o 0 ≡ get_or a.before.args.starts.now a.loop-o.o 65535
+here i = let a = i.before in get_or_within a.before.args.starts.now a.loop-o.o 0 65535 (omega arith)
 
-loop-again : tie.Need-loop-preserved invariant-loop decreases-loop
-loop-again c =
+loop-o-preserved : tie.Need-loop-o-preserved invariant-loop-o decreases-loop-o
+loop-o-preserved c =
     let i = c.before.before in
-    let p = i.before.loop.invariant.1 in
+    let p = i.before.loop-o.invariant.1 in
     ⊎_elim
     (λ w. rw w.2 (omega arith, pick_next p (omega arith) (sym (here i) ∙ w.0.taken) w.1.ensures))
     (λ w. rw w.1 (omega arith, pick_past p (λ q. w.0.left (here i ∙ q))))
-    c.if1.branch
+    c.if-starts-o.branch
 
-returns : tie.Need-returns invariant-loop decreases-loop
+returns : tie.Need-returns invariant-loop-o decreases-loop-o
 returns c =
     let a = c.before in
-    let e : a.loop.o ≡ a.before.args.n = omega arith in
-    rw e at a.loop.invariant.1
+    let e : a.loop-o.o ≡ a.before.args.n = omega arith in
+    rw e at a.loop-o.invariant.1
 
 pub pick_spec : {M : Type 1} → statement M
 pick_spec =
     tie.close
     (tie.spec
-    invariant-loop
-    decreases-loop
-    loop-holds
-    mul-if1
-    element-copy-out-if1
-    higher-requires
-    add-o
-    loop-less
-    loop-again
+    invariant-loop-o
+    decreases-loop-o
+    loop-o-init
+    offset_bounds-starts-o
+    bounds-starts-o
+    higher-best-requires
+    overflow_add-o
+    loop-o-smaller
+    loop-o-preserved
     returns)

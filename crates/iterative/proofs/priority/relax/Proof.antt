@@ -8,11 +8,11 @@ use Rattle.model.proofs.File.{accepted_ok}
 use Rattle.iterative.proofs.priority.relax.Statement.{statement}
 use Rattle.iterative.proofs.priority.relax.Tie as tie
 
-source-requires : tie.Need-source-requires
-source-requires c κs = (c.before.requires.0, c.before.requires.1)
+source-from-requires : tie.Need-source-from-requires
+source-from-requires c κs = (c.before.requires.0, c.before.requires.1)
 
-target-requires : tie.Need-target-requires
-target-requires c κs = let p = c.before.before.requires in (p.0, p.1)
+target-to-requires : tie.Need-target-to-requires
+target-to-requires c κs = let p = c.before.before.requires in (p.0, p.1)
 
 -- the dependence is in range
 dep_ok : (s : tie.Start) → let l = loop_of s.args.file.now in DepOk (size l) (dep_at l s.args.e)
@@ -22,21 +22,21 @@ few : (s : tie.Start) → size (loop_of s.args.file.now) ≤ 64
 few s = (accepted_ok s.args.file.now s.requires.0).few
 
 -- so each of its ends has a place
-far_inside : (j : tie.Joined1) → j.if1.far < 64
+far_inside : (j : tie.Joined-forward) → j.if-forward.far < 64
 far_inside j =
     let s = j.before.before.before.before in
-    ⊎_elim (λ w. omega (arith, (dep_ok s).source, few s)) (λ w. omega (arith, (dep_ok s).target, few s)) j.if1.branch
+    ⊎_elim (λ w. omega (arith, (dep_ok s).source-from, few s)) (λ w. omega (arith, (dep_ok s).target-to, few s)) j.if-forward.branch
 
-near_inside : (j : tie.Joined2) → j.if2.near < 64
+near_inside : (j : tie.Joined-forward-2) → j.if-forward-2.near < 64
 near_inside j =
     let s = j.before.before.before.before.before in
-    ⊎_elim (λ w. omega (arith, (dep_ok s).target, few s)) (λ w. omega (arith, (dep_ok s).source, few s)) j.if2.branch
+    ⊎_elim (λ w. omega (arith, (dep_ok s).target-to, few s)) (λ w. omega (arith, (dep_ok s).source-from, few s)) j.if-forward-2.branch
 
-mul_wide : tie.Need-overflow-mul-wide
-mul_wide c = omega (arith, far_inside c.before.before)
+offset_bounds-lengths-far : tie.Need-offset_bounds-lengths-far
+offset_bounds-lengths-far c = omega (arith, far_inside c.before.before)
 
-element-copy-out-wide : tie.Need-element-copy-out-wide
-element-copy-out-wide c = far_inside c.before.before
+bounds-lengths-far : tie.Need-bounds-lengths-far
+bounds-lengths-far c = far_inside c.before.before
 
 wide-requires : tie.Need-wide-requires
 wide-requires c κs = omega arith
@@ -44,8 +44,8 @@ wide-requires c κs = omega arith
 capped-requires : tie.Need-capped-requires
 capped-requires c κs = omega arith
 
-earliest-requires : tie.Need-earliest-requires
-earliest-requires c κs = let p = c.before.before.before.before.before.before.before.before.before.requires in (p.0, p.1, omega arith, p.2)
+earliest-v-requires : tie.Need-earliest-v-requires
+earliest-v-requires c κs = let p = c.before.before.before.before.before.before.before.before.before.requires in (p.0, p.1, omega arith, p.2)
 
 raise-requires : tie.Need-raise-requires
 raise-requires c κs = near_inside c.before.before.before.before.before.before
@@ -57,12 +57,12 @@ pub relax_spec : {M : Type 1} → statement M
 relax_spec =
     tie.close
     (tie.spec
-    source-requires
-    target-requires
-    mul_wide
-    element-copy-out-wide
+    source-from-requires
+    target-to-requires
+    offset_bounds-lengths-far
+    bounds-lengths-far
     wide-requires
     capped-requires
-    earliest-requires
+    earliest-v-requires
     raise-requires
     returns)

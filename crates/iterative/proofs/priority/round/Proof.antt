@@ -4,46 +4,46 @@ use native.Mathlib.Omega.{arith}
 use Rattle.iterative.proofs.priority.round.Statement.{statement}
 use Rattle.iterative.proofs.priority.round.Tie as tie
 
-abbrev invariant-loop : tie.invariant-loop
-invariant-loop file interval forward lengths₀ m changed₀ e₀ lengths changed e = e ≤ m
+abbrev invariant-loop-e : tie.invariant-loop-e
+invariant-loop-e file interval forward lengths₀ m changed₀ e₀ lengths changed e = e ≤ m
 
-abbrev decreases-loop : tie.decreases-loop
-decreases-loop file interval forward lengths₀ m changed₀ e₀ lengths changed e = m - e
+abbrev decreases-loop-e : tie.decreases-loop-e
+decreases-loop-e file interval forward lengths₀ m changed₀ e₀ lengths changed e = m - e
 
-dep-count-requires : tie.Need-dep-count-requires invariant-loop decreases-loop
-dep-count-requires c κs = c.before.requires.0
+dep_count-m-requires : tie.Need-dep_count-m-requires invariant-loop-e decreases-loop-e
+dep_count-m-requires c κs = c.before.requires.0
 
-loop-holds : tie.Need-loop-init invariant-loop decreases-loop
-loop-holds c = omega arith
+loop-e-init : tie.Need-loop-e-init invariant-loop-e decreases-loop-e
+loop-e-init c = omega arith
 
-relax-requires : tie.Need-relax-requires invariant-loop decreases-loop
-relax-requires c κs =
+relax-rose-requires : tie.Need-relax-rose-requires invariant-loop-e decreases-loop-e
+relax-rose-requires c κs =
     let m = c.before.before.before in
     let p = m.before.before.requires in
-    (p.0, omega (arith, m.dep_count.ensures), p.1)
+    (p.0, omega (arith, m.dep_count-m.ensures), p.1)
 
-add-e : tie.Need-overflow-add-e invariant-loop decreases-loop
-add-e c = omega arith
+overflow_add-e : tie.Need-overflow_add-e invariant-loop-e decreases-loop-e
+overflow_add-e c = omega arith
 
-loop-less : tie.Need-loop-smaller invariant-loop decreases-loop
-loop-less c = omega arith
+loop-e-smaller : tie.Need-loop-e-smaller invariant-loop-e decreases-loop-e
+loop-e-smaller c = omega arith
 
-loop-again : tie.Need-loop-preserved invariant-loop decreases-loop
-loop-again c = omega arith
+loop-e-preserved : tie.Need-loop-e-preserved invariant-loop-e decreases-loop-e
+loop-e-preserved c = omega arith
 
-returns : tie.Need-returns invariant-loop decreases-loop
+returns : tie.Need-returns invariant-loop-e decreases-loop-e
 returns c = tt
 
 pub round_spec : {M : Type 1} → statement M
 round_spec =
     tie.close
     (tie.spec
-    invariant-loop
-    decreases-loop
-    dep-count-requires
-    loop-holds
-    relax-requires
-    add-e
-    loop-less
-    loop-again
+    invariant-loop-e
+    decreases-loop-e
+    dep_count-m-requires
+    loop-e-init
+    relax-rose-requires
+    overflow_add-e
+    loop-e-smaller
+    loop-e-preserved
     returns)

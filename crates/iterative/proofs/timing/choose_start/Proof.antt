@@ -5,30 +5,30 @@ use Rattle.board.proofs.Boards.{board_far}
 use Rattle.iterative.proofs.timing.choose_start.Statement.{statement}
 use Rattle.iterative.proofs.timing.choose_start.Tie as tie
 
-width-of-requires : tie.Need-width-of-requires
-width-of-requires c κs = let s = c.before.before in (s.requires.0.accepted, s.requires.1)
+width_of-width-requires : tie.Need-width_of-width-requires
+width_of-width-requires c κs = let s = c.before.before in (s.requires.0.accepted, s.requires.1)
 
-earliest-start-requires : tie.Need-earliest-start-requires
-earliest-start-requires c κs = let b = c.before.before.before.requires.0 in (b.accepted, b.numbers.short, (board_far b).sane)
+earliest_start-from-requires : tie.Need-earliest_start-from-requires
+earliest_start-from-requires c κs = let b = c.before.before.before.requires.0 in (b.accepted, b.numbers.short, (board_far b).sane)
 
-first-free-requires : tie.Need-first-free-requires
-first-free-requires c κs =
+first_free-s-requires : tie.Need-first_free-s-requires
+first_free-s-requires c κs =
     let w = c.before.width_of_lem.ensures in
     let s = c.before.before.before.before in
     let b = s.requires.0 in
     (record { accepted = b.accepted; inside = s.requires.1; some = b.numbers.some; short = b.numbers.short; long = b.held.long; wide = w.1; narrow = w.2 }, b.numbers.far)
 
-returns : tie.Need-returns
-returns c =
+returns-then-s-horizon : tie.Need-returns-then-s-horizon
+returns-then-s-horizon c =
     let f = c.before in
     let w = f.before.before in
     record {
       width = w.width_of_lem.result;
       width_is = w.width_of_lem.ensures.0;
-      from = f.before.earliest-start.result;
-      from_is = f.before.earliest-start.ensures;
-      free = f.first-free.result;
-      free_is = f.first-free.ensures;
+      from = f.before.earliest_start-from.result;
+      from_is = f.before.earliest_start-from.ensures;
+      free = f.first_free-s.result;
+      free_is = f.first_free-s.ensures;
       found = λ l. refl;
       forced = λ l. absurd (omega arith);
     }
@@ -36,37 +36,37 @@ returns c =
 larger-requires : tie.Need-larger-requires
 larger-requires c κs = omega arith
 
-to-grid-requires : tie.Need-to-grid-requires
-to-grid-requires c κs =
+to_grid-requires : tie.Need-to_grid-requires
+to_grid-requires c κs =
     let a = c.before.before.before.before in
     let n = a.before.before.before.requires.0.numbers in
     let w = a.width_of_lem.ensures in
     (n.some, n.short, w.1, w.2, n.far)
 
-returns-2 : tie.Need-returns-2
-returns-2 c =
+returns : tie.Need-returns
+returns c =
     let g = c.before in
     let f = g.before.before in
     let w = f.before.before in
     record {
       width = w.width_of_lem.result;
       width_is = w.width_of_lem.ensures.0;
-      from = f.before.earliest-start.result;
-      from_is = f.before.earliest-start.ensures;
-      free = f.first-free.result;
-      free_is = f.first-free.ensures;
+      from = f.before.earliest_start-from.result;
+      from_is = f.before.earliest_start-from.ensures;
+      free = f.first_free-s.result;
+      free_is = f.first_free-s.ensures;
       found = λ l. absurd (omega arith);
-      forced = λ l. rw g.larger.ensures at c.to-grid.ensures;
+      forced = λ l. rw g.larger.ensures at c.to_grid.ensures;
     }
 
 pub choose_start_spec : {M : Type 1} → statement M
 choose_start_spec =
     tie.close
     (tie.spec
-    width-of-requires
-    earliest-start-requires
-    first-free-requires
-    returns
+    width_of-width-requires
+    earliest_start-from-requires
+    first_free-s-requires
+    returns-then-s-horizon
     larger-requires
-    to-grid-requires
-    returns-2)
+    to_grid-requires
+    returns)

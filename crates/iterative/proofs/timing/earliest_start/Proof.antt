@@ -9,53 +9,53 @@ use Rattle.iterative.proofs.Timings.{earliest_first, earliest_next}
 use Rattle.iterative.proofs.timing.earliest_start.Statement.{statement}
 use Rattle.iterative.proofs.timing.earliest_start.Tie as tie
 
-abbrev invariant-loop : tie.invariant-loop
-invariant-loop file op interval starts m from₀ e₀ from e = (e ≤ m) × EarliestStart (loop_of file) interval starts op e from
+abbrev invariant-loop-e : tie.invariant-loop-e
+invariant-loop-e file op interval starts m from₀ e₀ from e = (e ≤ m) × EarliestStart (loop_of file) interval starts op e from
 
-abbrev decreases-loop : tie.decreases-loop
-decreases-loop file op interval starts m from₀ e₀ from e = m - e
+abbrev decreases-loop-e : tie.decreases-loop-e
+decreases-loop-e file op interval starts m from₀ e₀ from e = m - e
 
-dep-count-requires : tie.Need-dep-count-requires invariant-loop decreases-loop
-dep-count-requires c κs = c.before.requires.0
+dep_count-m-requires : tie.Need-dep_count-m-requires invariant-loop-e decreases-loop-e
+dep_count-m-requires c κs = c.before.requires.0
 
-loop-holds : tie.Need-loop-init invariant-loop decreases-loop
-loop-holds c = (omega arith, earliest_first)
+loop-e-init : tie.Need-loop-e-init invariant-loop-e decreases-loop-e
+loop-e-init c = (omega arith, earliest_first)
 
-due-requires : tie.Need-due-requires invariant-loop decreases-loop
+due-requires : tie.Need-due-requires invariant-loop-e decreases-loop-e
 due-requires c κs =
     let m = c.before.before in
     let p = m.before.before.requires in
-    (p.0, omega (arith, m.dep_count.ensures), p.1, p.2)
+    (p.0, omega (arith, m.dep_count-m.ensures), p.1, p.2)
 
-larger-requires : tie.Need-larger-requires invariant-loop decreases-loop
-larger-requires c κs = omega arith
+larger-from-requires : tie.Need-larger-from-requires invariant-loop-e decreases-loop-e
+larger-from-requires c κs = omega arith
 
-add-e : tie.Need-overflow-add-e invariant-loop decreases-loop
-add-e c = omega arith
+overflow_add-e : tie.Need-overflow_add-e invariant-loop-e decreases-loop-e
+overflow_add-e c = omega arith
 
-loop-less : tie.Need-loop-smaller invariant-loop decreases-loop
-loop-less c = omega arith
+loop-e-smaller : tie.Need-loop-e-smaller invariant-loop-e decreases-loop-e
+loop-e-smaller c = omega arith
 
-loop-again : tie.Need-loop-preserved invariant-loop decreases-loop
-loop-again c = (omega arith, earliest_next c.before.before.before.loop.invariant.1 c.before.due.ensures c.larger.ensures)
+loop-e-preserved : tie.Need-loop-e-preserved invariant-loop-e decreases-loop-e
+loop-e-preserved c = (omega arith, earliest_next c.before.before.before.loop-e.invariant.1 c.before.due.ensures c.larger-from.ensures)
 
-returns : tie.Need-returns invariant-loop decreases-loop
+returns : tie.Need-returns invariant-loop-e decreases-loop-e
 returns c =
     let a = c.before in
-    let n : a.loop.e ≡ length (loop_of a.before.before.before.args.file.now).deps = omega (arith, a.before.dep_count.ensures) in
-    rw n at a.loop.invariant.1
+    let n : a.loop-e.e ≡ length (loop_of a.before.before.before.args.file.now).deps = omega (arith, a.before.dep_count-m.ensures) in
+    rw n at a.loop-e.invariant.1
 
 pub earliest_start_spec : {M : Type 1} → statement M
 earliest_start_spec =
     tie.close
     (tie.spec
-    invariant-loop
-    decreases-loop
-    dep-count-requires
-    loop-holds
+    invariant-loop-e
+    decreases-loop-e
+    dep_count-m-requires
+    loop-e-init
     due-requires
-    larger-requires
-    add-e
-    loop-less
-    loop-again
+    larger-from-requires
+    overflow_add-e
+    loop-e-smaller
+    loop-e-preserved
     returns)

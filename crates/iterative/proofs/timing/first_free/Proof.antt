@@ -9,69 +9,69 @@ use Rattle.iterative.specs.Timing.{Suits}
 use Rattle.iterative.proofs.timing.first_free.Statement.{statement}
 use Rattle.iterative.proofs.timing.first_free.Tie as tie
 
-abbrev invariant-loop : tie.invariant-loop
-invariant-loop file op from interval horizon width rows first k₀ s₀ k s =
+abbrev invariant-loop-s : tie.invariant-loop-s
+invariant-loop-s file op from interval horizon width rows first k₀ s₀ k s =
     (k ≤ interval) × (s ≡ from + k) × ((t : ℕ) → t < s → from ≤ t → Suits (op_at (loop_of file) op) interval width rows t → ⊥)
 
-abbrev decreases-loop : tie.decreases-loop
-decreases-loop file op from interval horizon width rows first k₀ s₀ k s = horizon - s
+abbrev decreases-loop-s : tie.decreases-loop-s
+decreases-loop-s file op from interval horizon width rows first k₀ s₀ k s = horizon - s
 
-first-use-requires : tie.Need-first-use-requires invariant-loop decreases-loop
-first-use-requires c κs = let g = c.before.before.requires.0 in (g.accepted, g.inside)
+first_use-first-requires : tie.Need-first_use-first-requires invariant-loop-s decreases-loop-s
+first_use-first-requires c κs = let g = c.before.before.requires.0 in (g.accepted, g.inside)
 
-loop-holds : tie.Need-loop-init invariant-loop decreases-loop
-loop-holds c = (omega arith, omega arith, λ t b a. absurd (omega arith))
+loop-s-init : tie.Need-loop-s-init invariant-loop-s decreases-loop-s
+loop-s-init c = (omega arith, omega arith, λ t b a. absurd (omega arith))
 
-returns : tie.Need-returns invariant-loop decreases-loop
-returns c = let a = c.before.before in record { within = omega arith; none_before = λ t m l k. a.loop.invariant.2 t (omega arith) l; found = λ m. absurd (omega arith) }
+returns-then-k-interval : tie.Need-returns-then-k-interval invariant-loop-s decreases-loop-s
+returns-then-k-interval c = let a = c.before.before in record { within = omega arith; none_before = λ t m l k. a.loop-s.invariant.2 t (omega arith) l; found = λ m. absurd (omega arith) }
 
-suits-requires : tie.Need-suits-requires invariant-loop decreases-loop
+suits-requires : tie.Need-suits-requires invariant-loop-s decreases-loop-s
 suits-requires c κs =
     let f = c.before.before.before in
     let p = f.before.before.before.requires in
-    (p.0, omega arith, f.first-use.ensures)
+    (p.0, omega arith, f.first_use-first.ensures)
 
-returns-2 : tie.Need-returns-2 invariant-loop decreases-loop
-returns-2 c =
+returns-then-suits : tie.Need-returns-then-suits invariant-loop-s decreases-loop-s
+returns-then-suits c =
     let d = c.before in
     let a = d.before.before.before in
     record {
       within = omega arith;
-      none_before = λ t m l k. a.loop.invariant.2 t m l;
-      found = λ m. (omega arith, omega arith, d.suits.ensures.yes c.if2.true);
+      none_before = λ t m l k. a.loop-s.invariant.2 t m l;
+      found = λ m. (omega arith, omega arith, d.suits.ensures.yes c.if-suits.true);
     }
 
-add-k : tie.Need-overflow-add-k invariant-loop decreases-loop
-add-k c = omega arith
+overflow_add-k : tie.Need-overflow_add-k invariant-loop-s decreases-loop-s
+overflow_add-k c = omega arith
 
-add-s : tie.Need-overflow-add-s invariant-loop decreases-loop
-add-s c = omega arith
+overflow_add-s : tie.Need-overflow_add-s invariant-loop-s decreases-loop-s
+overflow_add-s c = omega arith
 
-loop-less : tie.Need-loop-smaller invariant-loop decreases-loop
-loop-less c = omega arith
+loop-s-smaller : tie.Need-loop-s-smaller invariant-loop-s decreases-loop-s
+loop-s-smaller c = omega arith
 
-loop-again : tie.Need-loop-preserved invariant-loop decreases-loop
-loop-again c =
+loop-s-preserved : tie.Need-loop-s-preserved invariant-loop-s decreases-loop-s
+loop-s-preserved c =
     let d = c.before in
     let a = d.before.before.before in
-    (omega arith, omega arith, below_more _ a.loop.s a.loop.invariant.2 (λ l. d.suits.ensures.no c.if2.false))
+    (omega arith, omega arith, below_more _ a.loop-s.s a.loop-s.invariant.2 (λ l. d.suits.ensures.no c.if-suits.false))
 
-returns-3 : tie.Need-returns-3 invariant-loop decreases-loop
-returns-3 c = let a = c.before in record { within = omega arith; none_before = λ t m l k. a.loop.invariant.2 t (omega arith) l; found = λ m. absurd (omega arith) }
+returns : tie.Need-returns invariant-loop-s decreases-loop-s
+returns c = let a = c.before in record { within = omega arith; none_before = λ t m l k. a.loop-s.invariant.2 t (omega arith) l; found = λ m. absurd (omega arith) }
 
 pub first_free_spec : {M : Type 1} → statement M
 first_free_spec =
     tie.close
     (tie.spec
-    invariant-loop
-    decreases-loop
-    first-use-requires
-    loop-holds
-    returns
+    invariant-loop-s
+    decreases-loop-s
+    first_use-first-requires
+    loop-s-init
+    returns-then-k-interval
     suits-requires
-    returns-2
-    add-k
-    add-s
-    loop-less
-    loop-again
-    returns-3)
+    returns-then-suits
+    overflow_add-k
+    overflow_add-s
+    loop-s-smaller
+    loop-s-preserved
+    returns)

@@ -14,83 +14,83 @@ use Rattle.iterative.specs.Timing.{longest_of}
 use Rattle.iterative.proofs.timing.longest.Statement.{statement}
 use Rattle.iterative.proofs.timing.longest.Tie as tie
 
-abbrev invariant-loop : tie.invariant-loop
-invariant-loop file op first n most₀ j₀ most j = (j ≤ n) × (most ≡ longest_of (loop_of file) op j) × (most ≤ 16)
+abbrev invariant-loop-j : tie.invariant-loop-j
+invariant-loop-j file op first n most₀ j₀ most j = (j ≤ n) × (most ≡ longest_of (loop_of file) op j) × (most ≤ 16)
 
-abbrev decreases-loop : tie.decreases-loop
-decreases-loop file op first n most₀ j₀ most j = n - j
+abbrev decreases-loop-j : tie.decreases-loop-j
+decreases-loop-j file op first n most₀ j₀ most j = n - j
 
-first-use-requires : tie.Need-first-use-requires invariant-loop decreases-loop
-first-use-requires c κs = c.before.requires
+first_use-first-requires : tie.Need-first_use-first-requires invariant-loop-j decreases-loop-j
+first_use-first-requires c κs = c.before.requires
 
-use-count-requires : tie.Need-use-count-requires invariant-loop decreases-loop
-use-count-requires c κs = c.before.before.requires
+use_count-n-requires : tie.Need-use_count-n-requires invariant-loop-j decreases-loop-j
+use_count-n-requires c κs = c.before.before.requires
 
-loop-holds : tie.Need-loop-init invariant-loop decreases-loop
+loop-j-init : tie.Need-loop-j-init invariant-loop-j decreases-loop-j
 unfolding max_of up_from
-loop-holds c = (omega arith, omega arith, omega arith)
+loop-j-init c = (omega arith, omega arith, omega arith)
 
 -- the function's entry, as a turn sees it
-abbrev entry : tie.In-loop invariant-loop decreases-loop → tie.Start invariant-loop decreases-loop
+abbrev entry : tie.In-loop-j invariant-loop-j decreases-loop-j → tie.Start invariant-loop-j decreases-loop-j
 entry i = i.before.before.before.before.before
 
 -- the use whose turn it is
-here : (i : tie.In-loop invariant-loop decreases-loop) → UseHere (entry i).args.file.now (entry i).args.op i.before.loop.j (i.before.before.before.first-use.result + i.before.loop.j)
+here : (i : tie.In-loop-j invariant-loop-j decreases-loop-j) → UseHere (entry i).args.file.now (entry i).args.op i.before.loop-j.j (i.before.before.before.first_use-first.result + i.before.loop-j.j)
 here i =
     let s = entry i in
     let f = i.before.before.before in
-    use_here s.args.file.now s.args.op i.before.loop.j f.first-use.result i.before.before.use_count.result s.pre.0 s.pre.1 f.first-use.ensures
-    i.before.before.use_count.ensures i.loop-test.true
+    use_here s.args.file.now s.args.op i.before.loop-j.j f.first_use-first.result i.before.before.use_count-n.result s.pre.0 s.pre.1 f.first_use-first.ensures
+    i.before.before.use_count-n.ensures i.loop-j-test.true
 
-add-duration : tie.Need-overflow-add-duration invariant-loop decreases-loop
-add-duration c = omega (arith, (here c).small)
+overflow_add-first : tie.Need-overflow_add-first invariant-loop-j decreases-loop-j
+overflow_add-first c = omega (arith, (here c).small)
 
-duration-requires : tie.Need-duration-requires invariant-loop decreases-loop
+duration-requires : tie.Need-duration-requires invariant-loop-j decreases-loop-j
 duration-requires c κs = ((entry c).requires.0, (here c).inside)
 
-larger-requires : tie.Need-larger-requires invariant-loop decreases-loop
-larger-requires c κs = omega arith
+larger-most-requires : tie.Need-larger-most-requires invariant-loop-j decreases-loop-j
+larger-most-requires c κs = omega arith
 
-add-j : tie.Need-overflow-add-j invariant-loop decreases-loop
-add-j c = omega arith
+overflow_add-j : tie.Need-overflow_add-j invariant-loop-j decreases-loop-j
+overflow_add-j c = omega arith
 
-loop-less : tie.Need-loop-smaller invariant-loop decreases-loop
-loop-less c = omega arith
+loop-j-smaller : tie.Need-loop-j-smaller invariant-loop-j decreases-loop-j
+loop-j-smaller c = omega arith
 
-loop-again : tie.Need-loop-preserved invariant-loop decreases-loop
-loop-again c =
+loop-j-preserved : tie.Need-loop-j-preserved invariant-loop-j decreases-loop-j
+loop-j-preserved c =
     let d = c.before in
     let i = d.before in
     let s = entry i in
-    let j = i.before.loop.j in
+    let j = i.before.loop-j.j in
     let f = s.args.file.now in
     let p = op_at (loop_of f) s.args.op in
     let turn : d.duration.result ≡ (use_at p j).duration = d.duration.ensures ∙ ap (λ (u : Use). u.duration) (here i).is in
     let next : max_of (λ k. (use_at p k).duration) (up_from 0 (j + 1)) ≡ _ = max_next (λ k. (use_at p k).duration) 0 j in
     let zero-j : (use_at p (0 + j)).duration ≡ (use_at p j).duration = ap (λ (k : ℕ). (use_at p k).duration) (zero-add j) in
-    let short = (((accepted_ok f s.pre.0).op_ok s.args.op s.pre.1).each j (omega (arith, i.before.before.use_count.ensures))).ends in
-    (omega arith, omega (arith, c.larger.ensures, turn, next, zero-j, i.before.loop.invariant.1), omega (arith, c.larger.ensures, turn, short, i.before.loop.invariant.2))
+    let short = (((accepted_ok f s.pre.0).op_ok s.args.op s.pre.1).each j (omega (arith, i.before.before.use_count-n.ensures))).ends in
+    (omega arith, omega (arith, c.larger-most.ensures, turn, next, zero-j, i.before.loop-j.invariant.1), omega (arith, c.larger-most.ensures, turn, short, i.before.loop-j.invariant.2))
 
-returns : tie.Need-returns invariant-loop decreases-loop
+returns : tie.Need-returns invariant-loop-j decreases-loop-j
 returns c =
     let a = c.before in
     let s = a.before.before.before.before in
-    let e : a.loop.j ≡ length (op_at (loop_of s.args.file.now) s.args.op).uses = omega (arith, a.before.use_count.ensures) in
-    (rw e at a.loop.invariant.1, a.loop.invariant.2)
+    let e : a.loop-j.j ≡ length (op_at (loop_of s.args.file.now) s.args.op).uses = omega (arith, a.before.use_count-n.ensures) in
+    (rw e at a.loop-j.invariant.1, a.loop-j.invariant.2)
 
 pub longest_spec : {M : Type 1} → statement M
 longest_spec =
     tie.close
     (tie.spec
-    invariant-loop
-    decreases-loop
-    first-use-requires
-    use-count-requires
-    loop-holds
-    add-duration
+    invariant-loop-j
+    decreases-loop-j
+    first_use-first-requires
+    use_count-n-requires
+    loop-j-init
+    overflow_add-first
     duration-requires
-    larger-requires
-    add-j
-    loop-less
-    loop-again
+    larger-most-requires
+    overflow_add-j
+    loop-j-smaller
+    loop-j-preserved
     returns)

@@ -8,11 +8,11 @@ use Rattle.iterative.proofs.timing.width_of.Tie as tie
 longest-requires : tie.Need-longest-requires
 longest-requires c κs = c.before.before.requires
 
-returns : tie.Need-returns
-returns c = let e = c.longest.ensures in (rw c.before.if1.true e.0, omega (arith, e.0), e.1)
+returns-then-gridded : tie.Need-returns-then-gridded
+returns-then-gridded c = let e = c.longest.ensures in (rw c.before.if-gridded.true e.0, omega (arith, e.0), e.1)
 
-returns-2 : tie.Need-returns-2
-returns-2 c = (rw c.if1.false refl, omega arith, omega arith)
+returns : tie.Need-returns
+returns c = (rw c.if-gridded.false refl, omega arith, omega arith)
 
 pub width_of_spec : {M : Type 1} → statement M
-width_of_spec = tie.close (tie.spec longest-requires returns returns-2)
+width_of_spec = tie.close (tie.spec longest-requires returns-then-gridded returns)

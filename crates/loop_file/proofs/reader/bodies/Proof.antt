@@ -14,182 +14,182 @@ use Rattle.loop_file.proofs.FileChecks.{sum_refused, sum_right, ops_refused, use
 use Rattle.loop_file.proofs.reader.bodies.Statement.{statement}
 use Rattle.loop_file.proofs.reader.bodies.Tie as tie
 
-word-requires : tie.Need-word-requires
-word-requires c κs = omega arith
+word-oper-requires : tie.Need-word-oper-requires
+word-oper-requires c κs = omega arith
 
-word-requires-2 : tie.Need-word-requires-2
-word-requires-2 c κs = omega arith
+word-uses_length-requires : tie.Need-word-uses_length-requires
+word-uses_length-requires c κs = omega arith
 
 -- ---- once the first two lengths are read
 
 -- the file
-abbrev file : tie.After-word2 → List ℕ
+abbrev file : tie.After-word-uses_length → List ℕ
 file c = c.before.before.before.args.file.now
 
-shaped : (c : tie.After-word2) → Shape (file c)
+shaped : (c : tie.After-word-uses_length) → Shape (file c)
 shaped c = shape (file c) c.before.before.before.requires.1
 
 -- the number of operations
-number : (c : tie.After-word2) → c.before.word.result / 2 ≡ op_count (file c)
-number c = ap (λ (w : ℕ). w / 2) c.before.word.ensures.0
+number : (c : tie.After-word-uses_length) → c.before.word-oper.result / 2 ≡ op_count (file c)
+number c = ap (λ (w : ℕ). w / 2) c.before.word-oper.ensures.0
 
-ops-requires : tie.Need-ops-requires
-ops-requires c κs = omega (arith, shaped c, c.before.word.ensures.0)
+ops-first-requires : tie.Need-ops-first-requires
+ops-first-requires c κs = omega (arith, shaped c, c.before.word-oper.ensures.0)
 
 -- what the operations say
-ops_say : (c : tie.After-ops) → part_of c.ops.result ≡ settle (ops_table (file c.before) (op_count (file c.before))) (first_use (file c.before) (op_count (file c.before)))
-ops_say c = rw (number c.before) at c.ops.ensures
+ops_say : (c : tie.After-ops-first) → part_of c.ops-first.result ≡ settle (ops_table (file c.before) (op_count (file c.before))) (first_use (file c.before) (op_count (file c.before)))
+ops_say c = rw (number c.before) at c.ops-first.ensures
 
-enum-known-first : tie.Need-enum-known-first
-enum-known-first c = omega arith
+enum_known-first : tie.Need-enum_known-first
+enum_known-first c = omega arith
 
-enum_told : tie.Need-enum-told
-enum_told c = omega arith
+enum_told-1 : tie.Need-enum_told-1
+enum_told-1 c = omega arith
 
-returns : tie.Need-returns
-returns c =
+returns-in_default : tie.Need-returns-in_default
+returns-in_default c =
     let o = c.before.before in
-    let e = ap part_of c.enum_told.given.1 in
+    let e = ap part_of c.enum_told-1.given.1 in
     some_refused _ (ops_refused (file o.before) _ (refused_some _ (ops_say o) e)) e
 
 -- ---- once the operations are right
 
-abbrev ops_of : tie.After-known-told → tie.After-ops
+abbrev ops_of : tie.In-Fine → tie.After-ops-first
 ops_of c = c.before.before.before
 
-abbrev file_of : tie.After-known-told → List ℕ
+abbrev file_of : tie.In-Fine → List ℕ
 file_of c = file (ops_of c).before
 
 -- their table is passed, and the number of all uses is what they say
-ops_passed : (c : tie.After-known-told) → first_refusal (ops_table (file_of c) (op_count (file_of c))) ≡ none
-ops_passed c = fine_none _ (ops_say (ops_of c)) (ap part_of c.before.first.given.1)
+ops_passed : (c : tie.In-Fine) → first_refusal (ops_table (file_of c) (op_count (file_of c))) ≡ none
+ops_passed c = fine_none _ (ops_say (ops_of c)) (ap part_of c.before.first-1.given.1)
 
-total : (c : tie.After-known-told) → c.before.first.given.0.0 ≡ first_use (file_of c) (op_count (file_of c))
-total c = fine_value (first_refusal (ops_table (file_of c) (op_count (file_of c)))) (ops_say (ops_of c)) (ap part_of c.before.first.given.1)
+total : (c : tie.In-Fine) → c.before.first-1.given.0.0 ≡ first_use (file_of c) (op_count (file_of c))
+total c = fine_value (first_refusal (ops_table (file_of c) (op_count (file_of c)))) (ops_say (ops_of c)) (ap part_of c.before.first-1.given.1)
 
-add_start : tie.Need-overflow-add-start
-add_start c = omega arith
+overflow_add-start : tie.Need-overflow_add-start
+overflow_add-start c = omega arith
 
 -- there are at most four uses an operation
-few : (c : tie.After-known-told) → c.before.first.given.0.0 ≤ 256
+few : (c : tie.In-Fine) → c.before.first-1.given.0.0 ≤ 256
 few c = omega (arith, total c, uses_few (file_of c) (op_count (file_of c)) (ops_passed c), shaped (ops_of c).before)
 
-mul-if1 : tie.Need-overflow-mul-if1
-mul-if1 c = omega (arith, few c)
+overflow_mul-total : tie.Need-overflow_mul-total
+overflow_mul-total c = omega (arith, few c)
 
 -- the length of USES, and where it begins
-length_is : (c : tie.After-known-told) → (ops_of c).before.word2.result ≡ length_of (file_of c) uses
-length_is c = (ops_of c).before.word2.ensures.0
+length_is : (c : tie.In-Fine) → (ops_of c).before.word-uses_length.result ≡ length_of (file_of c) uses
+length_is c = (ops_of c).before.word-uses_length.ensures.0
 
-start_is : (c : tie.After-known-told) → 26 + (ops_of c).before.before.word.result ≡ uses_at (file_of c)
-start_is c = ap (λ (w : ℕ). 26 + w) (ops_of c).before.before.word.ensures.0
+start_is : (c : tie.In-Fine) → 26 + (ops_of c).before.before.word-oper.result ≡ uses_at (file_of c)
+start_is c = ap (λ (w : ℕ). 26 + w) (ops_of c).before.before.word-oper.ensures.0
 
-returns-2 : tie.Need-returns-2
-returns-2 c =
+returns-then-uses_length-total : tie.Need-returns-then-uses_length-total
+returns-then-uses_length-total c =
     let b = c.before in
-    some_refused _ (uses_refused (file_of b) _ (ops_passed b) (sum_refused (file_of b) (λ e. c.if1.true (length_is b ∙ e ∙ ap (λ (t : ℕ). 2 * t) (sym (total b))))))
+    some_refused _ (uses_refused (file_of b) _ (ops_passed b) (sum_refused (file_of b) (λ e. c.if-uses_length-total.true (length_is b ∙ e ∙ ap (λ (t : ℕ). 2 * t) (sym (total b))))))
     (ap (λ (s : ℕ). refused (refusal 5 s)) (start_is b))
 
 -- ---- once the number of uses is right
 
 -- it is what the operations say
-right : (c : tie.Else1) → length_of (file_of c.before) uses ≡ 2 * first_use (file_of c.before) (op_count (file_of c.before))
-right c = sym (length_is c.before) ∙ c.if1.false ∙ ap (λ (t : ℕ). 2 * t) (total c.before)
+right : (c : tie.Else-uses_length-total) → length_of (file_of c.before) uses ≡ 2 * first_use (file_of c.before) (op_count (file_of c.before))
+right c = sym (length_is c.before) ∙ c.if-uses_length-total.false ∙ ap (λ (t : ℕ). 2 * t) (total c.before)
 
-uses-requires : tie.Need-uses-requires
-uses-requires c κs =
+uses-second-requires : tie.Need-uses-second-requires
+uses-second-requires c κs =
     let b = c.before in
     rw (number (ops_of b).before) (omega (arith, shaped (ops_of b).before, start_is b, right c))
 
 -- what the uses say
-uses_say : (c : tie.After-uses) → part_of c.uses.result ≡ settle (uses_table (file_of c.before.before) (uses_at (file_of c.before.before)) (op_count (file_of c.before.before))) 0
-uses_say c = rw (number (ops_of c.before.before).before, start_is c.before.before) at c.uses.ensures
+uses_say : (c : tie.After-uses-second) → part_of c.uses-second.result ≡ settle (uses_table (file_of c.before.before) (uses_at (file_of c.before.before)) (op_count (file_of c.before.before))) 0
+uses_say c = rw (number (ops_of c.before.before).before, start_is c.before.before) at c.uses-second.ensures
 
-enum-told-2 : tie.Need-enum-told-2
-enum-told-2 c = omega arith
+enum_told-in-Fine-second : tie.Need-enum_told-in-Fine-second
+enum_told-in-Fine-second c = omega arith
 
-enum-told-3 : tie.Need-enum-told-3
-enum-told-3 c = omega arith
+enum_told-in_default-second : tie.Need-enum_told-in_default-second
+enum_told-in_default-second c = omega arith
 
-returns-3 : tie.Need-returns-3
-returns-3 c =
+returns-in_default-second : tie.Need-returns-in_default-second
+returns-in_default-second c =
     let u = c.before.before in
     let b = u.before.before in
-    let e = ap part_of c.enum-told3.given.1 in
+    let e = ap part_of c.enum_told-in_default-second-1.given.1 in
     some_refused _ (uses_refused (file_of b) _ (ops_passed b) (sum_right (file_of b) (right u.before) ∙ refused_some 0 (uses_say u) e)) e
 
 -- ---- once the uses are right
 
-abbrev uses_of : tie.After-enum-told2 → tie.After-uses
+abbrev uses_of : tie.In-Fine-second → tie.After-uses-second
 uses_of c = c.before.before
 
-uses_passed : (c : tie.After-enum-told2) → first_refusal (uses_checks (file_of (uses_of c).before.before)) ≡ none
+uses_passed : (c : tie.In-Fine-second) → first_refusal (uses_checks (file_of (uses_of c).before.before)) ≡ none
 uses_passed c =
     let u = uses_of c in
-    sum_right (file_of u.before.before) (right u.before) ∙ fine_none 0 (uses_say u) (ap part_of c.enum-told2.given.1)
+    sum_right (file_of u.before.before) (right u.before) ∙ fine_none 0 (uses_say u) (ap part_of c.enum_told-in-Fine-second-1.given.1)
 
-add-deps : tie.Need-overflow-add-deps
-add-deps c = omega arith
+overflow_add-start-2 : tie.Need-overflow_add-start-2
+overflow_add-start-2 c = omega arith
 
-word-requires-3 : tie.Need-word-requires-3
-word-requires-3 c κs = omega arith
+word-requires : tie.Need-word-requires
+word-requires c κs = omega arith
 
-deps-requires : tie.Need-deps-requires
-deps-requires c κs =
+deps-third-requires : tie.Need-deps-third-requires
+deps-third-requires c κs =
     let b = (uses_of c.before).before.before in
-    omega (arith, shaped (ops_of b).before, start_is b, length_is b, c.word3.ensures.0)
+    omega (arith, shaped (ops_of b).before, start_is b, length_is b, c.word.ensures.0)
 
 -- what the dependences say
-deps_say : (c : tie.After-deps) → part_of c.deps.result ≡ settle (deps_table (file_of (uses_of c.before.before).before.before) (op_count (file_of (uses_of c.before.before).before.before)) (deps_at (file_of (uses_of c.before.before).before.before)) (dep_count (file_of (uses_of c.before.before).before.before))) 0
+deps_say : (c : tie.After-deps-third) → part_of c.deps-third.result ≡ settle (deps_table (file_of (uses_of c.before.before).before.before) (op_count (file_of (uses_of c.before.before).before.before)) (deps_at (file_of (uses_of c.before.before).before.before)) (dep_count (file_of (uses_of c.before.before).before.before))) 0
 deps_say c =
     let b = (uses_of c.before.before).before.before in
-    c.deps.ensures ∙ same (file_of b) (number (ops_of b).before) (ap₂ ◌+◌ (start_is b) (length_is b)) (ap (λ (w : ℕ). w / 4) c.before.word3.ensures.0)
+    c.deps-third.ensures ∙ same (file_of b) (number (ops_of b).before) (ap₂ ◌+◌ (start_is b) (length_is b)) (ap (λ (w : ℕ). w / 4) c.before.word.ensures.0)
   where
     same : (f : List ℕ) {n n' s s' m m' : ℕ} → n ≡ n' → s ≡ s' → m ≡ m' → settle {A = ℕ} (deps_table f n s m) 0 ≡ settle (deps_table f n' s' m') 0
     same f p q r = rw (p, q, r)
 
-enum-told-4 : tie.Need-enum-told-4
-enum-told-4 c = omega arith
+enum_told-in-Fine-third : tie.Need-enum_told-in-Fine-third
+enum_told-in-Fine-third c = omega arith
 
-enum-told-5 : tie.Need-enum-told-5
-enum-told-5 c = omega arith
+enum_told-in_default-third : tie.Need-enum_told-in_default-third
+enum_told-in_default-third c = omega arith
 
-returns-4 : tie.Need-returns-4
-returns-4 c =
+returns-in_default-third : tie.Need-returns-in_default-third
+returns-in_default-third c =
     let d = c.before.before in
     let u = d.before.before in
     let b = (uses_of u).before.before in
-    let e = ap part_of c.enum-told5.given.1 in
+    let e = ap part_of c.enum_told-in_default-third-1.given.1 in
     some_refused _ (deps_come (file_of b) (ops_passed b) (uses_passed u) ∙ refused_some 0 (deps_say d) e) e
 
-returns-5 : tie.Need-returns-5
-returns-5 c =
+returns : tie.Need-returns
+returns c =
     let d = c.before.before in
     let u = d.before.before in
     let b = (uses_of u).before.before in
-    none_answered (deps_come (file_of b) (ops_passed b) (uses_passed u) ∙ fine_none 0 (deps_say d) (ap part_of c.enum-told4.given.1)) (total b) refl
+    none_answered (deps_come (file_of b) (ops_passed b) (uses_passed u) ∙ fine_none 0 (deps_say d) (ap part_of c.enum_told-in-Fine-third-1.given.1)) (total b) refl
 
 pub bodies_spec : {M : Type 1} → statement M
 bodies_spec =
     tie.close
     (tie.spec
+    word-oper-requires
+    word-uses_length-requires
+    ops-first-requires
+    enum_known-first
+    enum_told-1
+    returns-in_default
+    overflow_add-start
+    overflow_mul-total
+    returns-then-uses_length-total
+    uses-second-requires
+    enum_told-in-Fine-second
+    enum_told-in_default-second
+    returns-in_default-second
+    overflow_add-start-2
     word-requires
-    word-requires-2
-    ops-requires
-    enum-known-first
-    enum_told
-    returns
-    add_start
-    mul-if1
-    returns-2
-    uses-requires
-    enum-told-2
-    enum-told-3
-    returns-3
-    add-deps
-    word-requires-3
-    deps-requires
-    enum-told-4
-    enum-told-5
-    returns-4
-    returns-5)
+    deps-third-requires
+    enum_told-in-Fine-third
+    enum_told-in_default-third
+    returns-in_default-third
+    returns)

@@ -42,7 +42,7 @@ got {f} {s} {start} {n} {more} a g =
       bytes = a.bytes;
       past = a.past ∙ refusal_append (entry_checks f s start) more (fine_none (length_of f s) a.said (ap part_of g));
       is = v;
-      small = omega (arith, a.bytes (s.entry + 6), a.bytes (s.entry + 6 + 1));
+      small = omega (arith, a.bytes (s.entry-first + 6), a.bytes (s.entry-first + 6 + 1));
     }
 
 -- the answer was a refusal: it is that of the contents
@@ -67,136 +67,136 @@ unfolding contents_checks entry_checks
 grouped f = refl
 
 -- the file, at each entry's answer
-abbrev f1 : tie.After-entry → List ℕ
+abbrev f1 : tie.After-entry-first → List ℕ
 f1 c = c.before.before.before.args.file.now
 
-abbrev f2 : tie.After-entry2 → List ℕ
+abbrev f2 : tie.After-entry-second → List ℕ
 f2 c = f1 c.before.before.before.before.before
 
-abbrev f3 : tie.After-entry3 → List ℕ
+abbrev f3 : tie.After-entry-third → List ℕ
 f3 c = f2 c.before.before.before.before.before
 
-first : (c : tie.After-entry) → Asked (f1 c) oper oper_at (past_one (f1 c)) c.entry.result
-first c = record { bytes = c.before.before.shared-slice-known.given; past = grouped (f1 c); said = c.entry.ensures }
+first : (c : tie.After-entry-first) → Asked (f1 c) oper oper_at (past_one (f1 c)) c.entry-first.result
+first c = record { bytes = c.before.before.shared_slice_known-1.given; past = grouped (f1 c); said = c.entry-first.ensures }
 
-got_first : (c : tie.After-known-told) → Got (f1 c.before.before.before) oper (past_one (f1 c.before.before.before)) c.before.first.given.0.0
-got_first c = got (first c.before.before.before) c.before.first.given.1
+got_first : (c : tie.In-Fine) → Got (f1 c.before.before.before) oper (past_one (f1 c.before.before.before)) c.before.first-1.given.0.0
+got_first c = got (first c.before.before.before) c.before.first-1.given.1
 
-second : (c : tie.After-entry2) → Asked (f2 c) uses (uses_at (f2 c)) (past_two (f2 c)) c.entry2.result
+second : (c : tie.After-entry-second) → Asked (f2 c) uses (uses_at (f2 c)) (past_two (f2 c)) c.entry-second.result
 second c =
     let g = got_first c.before.before in
-    record { bytes = g.bytes; past = g.past; said = rw g.is at c.entry2.ensures }
+    record { bytes = g.bytes; past = g.past; said = rw g.is at c.entry-second.ensures }
 
-got_second : (c : tie.After-known-told2) → Got (f2 c.before.before.before) uses (past_two (f2 c.before.before.before)) c.before.second.given.0.0
-got_second c = got (second c.before.before.before) c.before.second.given.1
+got_second : (c : tie.In-Fine-second) → Got (f2 c.before.before.before) uses (past_two (f2 c.before.before.before)) c.before.second-1.given.0.0
+got_second c = got (second c.before.before.before) c.before.second-1.given.1
 
-third : (c : tie.After-entry3) → Asked (f3 c) deps (deps_at (f3 c)) (past_three (f3 c)) c.entry3.result
+third : (c : tie.After-entry-third) → Asked (f3 c) deps (deps_at (f3 c)) (past_three (f3 c)) c.entry-third.result
 third c =
     let g = got_second c.before.before in
-    record { bytes = g.bytes; past = g.past; said = rw ((got_first c.before.before.before.before.before.before.before).is, g.is) at c.entry3.ensures }
+    record { bytes = g.bytes; past = g.past; said = rw ((got_first c.before.before.before.before.before.before.before).is, g.is) at c.entry-third.ensures }
 
-got_third : (c : tie.After-known-told3) → Got (f3 c.before.before.before) deps (past_three (f3 c.before.before.before)) c.before.third.given.0.0
-got_third c = got (third c.before.before.before) c.before.third.given.1
+got_third : (c : tie.In-Fine-third) → Got (f3 c.before.before.before) deps (past_three (f3 c.before.before.before)) c.before.third-1.given.0.0
+got_third c = got (third c.before.before.before) c.before.third-1.given.1
 
 -- the places past the first entry and past the second, seen from the last test; the sum of the three lengths is the last body's end, and fits
-module _ (c : tie.After-known-told3) where
-  abbrev two : tie.After-known-told2
+module _ (c : tie.In-Fine-third) where
+  abbrev two : tie.In-Fine-second
   two = c.before.before.before.before.before
 
-  abbrev one : tie.After-known-told
+  abbrev one : tie.In-Fine
   one = two.before.before.before.before.before
 
-  ends : end_at (f3 c.before.before.before) ≡ 26 + one.before.first.given.0.0 + two.before.second.given.0.0 + c.before.third.given.0.0
+  ends : end_at (f3 c.before.before.before) ≡ 26 + one.before.first-1.given.0.0 + two.before.second-1.given.0.0 + c.before.third-1.given.0.0
   ends = omega (arith, (got_first one).is, (got_second two).is, (got_third c).is)
 
-  small : one.before.first.given.0.0 + two.before.second.given.0.0 + c.before.third.given.0.0 < 196608
+  small : one.before.first-1.given.0.0 + two.before.second-1.given.0.0 + c.before.third-1.given.0.0 < 196608
   small = omega (arith, (got_first one).small, (got_second two).small, (got_third c).small)
 
 -- ---- the needs
 
-entry-requires : tie.Need-entry-requires
-entry-requires c κs = omega arith
+entry-first-requires : tie.Need-entry-first-requires
+entry-first-requires c κs = omega arith
 
-enum-known-first : tie.Need-enum-known-first
-enum-known-first c = omega arith
+enum_known-first : tie.Need-enum_known-first
+enum_known-first c = omega arith
 
-enum_told : tie.Need-enum-told
-enum_told c = omega arith
+enum_told-1 : tie.Need-enum_told-1
+enum_told-1 c = omega arith
+
+returns-in_default : tie.Need-returns-in_default
+returns-in_default c = refuse (first c.before.before) c.enum_told-1.given.1
+
+overflow_add-oper : tie.Need-overflow_add-oper
+overflow_add-oper c = omega (arith, (got_first c.before).small)
+
+entry-second-requires : tie.Need-entry-second-requires
+entry-second-requires c κs = omega arith
+
+enum_known-second : tie.Need-enum_known-second
+enum_known-second c = omega arith
+
+enum_told-in_default-second : tie.Need-enum_told-in_default-second
+enum_told-in_default-second c = omega arith
+
+returns-in_default-second : tie.Need-returns-in_default-second
+returns-in_default-second c = refuse (second c.before.before) c.enum_told-in_default-second-1.given.1
+
+overflow_add-oper-2 : tie.Need-overflow_add-oper-2
+overflow_add-oper-2 c = omega (arith, (got_first c.before.before.before.before.before.before).small)
+
+overflow_add-oper-3 : tie.Need-overflow_add-oper-3
+overflow_add-oper-3 c = omega (arith, (got_first c.before.before.before.before.before.before).small, (got_second c.before).small)
+
+entry-third-requires : tie.Need-entry-third-requires
+entry-third-requires c κs = omega arith
+
+enum_known-third : tie.Need-enum_known-third
+enum_known-third c = omega arith
+
+enum_told-in_default-third : tie.Need-enum_told-in_default-third
+enum_told-in_default-third c = omega arith
+
+returns-in_default-third : tie.Need-returns-in_default-third
+returns-in_default-third c = refuse (third c.before.before) c.enum_told-in_default-third-1.given.1
+
+overflow_add-oper-4 : tie.Need-overflow_add-oper-4
+overflow_add-oper-4 c = omega (arith, small c)
+
+overflow_add-oper-5 : tie.Need-overflow_add-oper-5
+overflow_add-oper-5 c = omega (arith, small c)
+
+overflow_add-oper-6 : tie.Need-overflow_add-oper-6
+overflow_add-oper-6 c = omega (arith, small c)
+
+returns-then-oper-uses : tie.Need-returns-then-oper-uses
+unfolding first_refusal
+returns-then-oper-uses c = some_refused 0 ((got_third c.before).past ∙ rw (ends c.before, ne_eqb _ _ c.if-oper-uses.true)) refl
 
 returns : tie.Need-returns
-returns c = refuse (first c.before.before) c.enum_told.given.1
-
-add-entry : tie.Need-overflow-add-entry
-add-entry c = omega (arith, (got_first c.before).small)
-
-entry-requires-2 : tie.Need-entry-requires-2
-entry-requires-2 c κs = omega arith
-
-enum-known-second : tie.Need-enum-known-second
-enum-known-second c = omega arith
-
-enum-told-2 : tie.Need-enum-told-2
-enum-told-2 c = omega arith
-
-returns-2 : tie.Need-returns-2
-returns-2 c = refuse (second c.before.before) c.enum-told2.given.1
-
-add-entry-2 : tie.Need-overflow-add-entry-2
-add-entry-2 c = omega (arith, (got_first c.before.before.before.before.before.before).small)
-
-add-entry-3 : tie.Need-overflow-add-entry-3
-add-entry-3 c = omega (arith, (got_first c.before.before.before.before.before.before).small, (got_second c.before).small)
-
-entry-requires-3 : tie.Need-entry-requires-3
-entry-requires-3 c κs = omega arith
-
-enum-known-third : tie.Need-enum-known-third
-enum-known-third c = omega arith
-
-enum-told-3 : tie.Need-enum-told-3
-enum-told-3 c = omega arith
-
-returns-3 : tie.Need-returns-3
-returns-3 c = refuse (third c.before.before) c.enum-told3.given.1
-
-add-if1 : tie.Need-overflow-add-if1
-add-if1 c = omega (arith, small c)
-
-add-if1-2 : tie.Need-overflow-add-if1-2
-add-if1-2 c = omega (arith, small c)
-
-add-if1-3 : tie.Need-overflow-add-if1-3
-add-if1-3 c = omega (arith, small c)
-
-returns-4 : tie.Need-returns-4
 unfolding first_refusal
-returns-4 c = some_refused 0 ((got_third c.before).past ∙ rw (ends c.before, ne_eqb _ _ c.if1.true)) refl
-
-returns-5 : tie.Need-returns-5
-unfolding first_refusal
-returns-5 c = none_answered ((got_third c.before).past ∙ rw (ends c.before, eq-eqb _ _ c.if1.false)) refl refl
+returns c = none_answered ((got_third c.before).past ∙ rw (ends c.before, eq-eqb _ _ c.if-oper-uses.false)) refl refl
 
 pub contents_spec : {M : Type 1} → statement M
 contents_spec =
     tie.close
     (tie.spec
-    entry-requires
-    enum-known-first
-    enum_told
-    returns
-    add-entry
-    entry-requires-2
-    enum-known-second
-    enum-told-2
-    returns-2
-    add-entry-2
-    add-entry-3
-    entry-requires-3
-    enum-known-third
-    enum-told-3
-    returns-3
-    add-if1
-    add-if1-2
-    add-if1-3
-    returns-4
-    returns-5)
+    entry-first-requires
+    enum_known-first
+    enum_told-1
+    returns-in_default
+    overflow_add-oper
+    entry-second-requires
+    enum_known-second
+    enum_told-in_default-second
+    returns-in_default-second
+    overflow_add-oper-2
+    overflow_add-oper-3
+    entry-third-requires
+    enum_known-third
+    enum_told-in_default-third
+    returns-in_default-third
+    overflow_add-oper-4
+    overflow_add-oper-5
+    overflow_add-oper-6
+    returns-then-oper-uses
+    returns)

@@ -16,124 +16,124 @@ use Rattle.model.proofs.Signed.{outside_range}
 use Rattle.loop_file.proofs.reader.dep.Statement.{statement}
 use Rattle.loop_file.proofs.reader.dep.Tie as tie
 
-shared-slice-read-wide : tie.Need-shared-slice-read-wide
-shared-slice-read-wide c = omega arith
+bounds-file-at : tie.Need-bounds-file-at
+bounds-file-at c = omega arith
 
 wide-requires : tie.Need-wide-requires
 wide-requires c κs = tt
 
-returns : tie.Need-returns
+returns-then-n-wide : tie.Need-returns-then-n-wide
 unfolding dep_checks first_refusal
-returns c = rw (← c.before.wide.ensures.0, le-leb _ _ c.if1.true)
+returns-then-n-wide c = rw (← c.before.wide.ensures.0, le-leb _ _ c.if-n-wide.true)
 
-add_wide : tie.Need-overflow-add-wide
-add_wide c = omega arith
+overflow_add-at : tie.Need-overflow_add-at
+overflow_add-at c = omega arith
 
-shared-slice-read-wide-2 : tie.Need-shared-slice-read-wide-2
-shared-slice-read-wide-2 c = omega arith
+bounds-file-at-2 : tie.Need-bounds-file-at-2
+bounds-file-at-2 c = omega arith
 
 wide-requires-2 : tie.Need-wide-requires-2
 wide-requires-2 c κs = tt
 
-add-t11 : tie.Need-overflow-add-t11
-add-t11 c = omega arith
+overflow_add-result : tie.Need-overflow_add-result
+overflow_add-result c = omega arith
 
-returns-2 : tie.Need-returns-2
+returns-then-n-wide-2 : tie.Need-returns-then-n-wide-2
 unfolding dep_checks first_refusal
-returns-2 c =
+returns-then-n-wide-2 c =
     let d = c.before.before.before in
-    rw (← d.before.wide.ensures.0, lt-leb _ _ d.if1.false, ← c.before.wide2.ensures.0, le-leb _ _ c.if2.true)
+    rw (← d.before.wide.ensures.0, lt-leb _ _ d.if-n-wide.false, ← c.before.wide-2.ensures.0, le-leb _ _ c.if-n-wide-2.true)
 
-add-signed : tie.Need-overflow-add-signed
-add-signed c = omega arith
+overflow_add-at-2 : tie.Need-overflow_add-at-2
+overflow_add-at-2 c = omega arith
 
-shared-slice-read-signed : tie.Need-shared-slice-read-signed
-shared-slice-read-signed c = omega arith
+bounds-file-at-3 : tie.Need-bounds-file-at-3
+bounds-file-at-3 c = omega arith
 
-signed-requires : tie.Need-signed-requires
-signed-requires c κs = tt
+signed-delay-requires : tie.Need-signed-delay-requires
+signed-delay-requires c κs = tt
 
-add-t13 : tie.Need-overflow-add-t13
-add-t13 c = omega arith
+overflow_add-result-then-delay-ltminus64 : tie.Need-overflow_add-result-then-delay-ltminus64
+overflow_add-result-then-delay-ltminus64 c = omega arith
 
 -- both ends are operations
-ends : (c : tie.Else2) → let a = c.before.before.before.before.before.before.before.args in
+ends : (c : tie.Else-n-wide-2) → let a = c.before.before.before.before.before.before.before.args in
     (leb a.n (byte_at a.file.now a.at) ≡ false) × (leb a.n (byte_at a.file.now (a.at + 1)) ≡ false)
 ends c =
     let d = c.before.before.before in
-    (rw (← d.before.wide.ensures.0) (lt-leb _ _ d.if1.false), rw (← c.before.wide2.ensures.0) (lt-leb _ _ c.if2.false))
+    (rw (← d.before.wide.ensures.0) (lt-leb _ _ d.if-n-wide.false), rw (← c.before.wide-2.ensures.0) (lt-leb _ _ c.if-n-wide-2.false))
 
 -- what the tests of the delay compare
-delay : (c : tie.After-signed) → let a = c.before.before.before.before.before.before.before.before.before.args in
-    to_z w32 (of_z w32 c.signed.result) ≡ signed_byte (byte_at a.file.now (a.at + 2))
-delay c = to_z-of_z w32 c.signed.result (record { sfits = c.signed.type-inv }) ∙ c.signed.ensures
+delay : (c : tie.After-signed-delay) → let a = c.before.before.before.before.before.before.before.before.before.args in
+    to_z w32 (of_z w32 c.signed-delay.result) ≡ signed_byte (byte_at a.file.now (a.at + 2))
+delay c = to_z-of_z w32 c.signed-delay.result (record { sfits = c.signed-delay.type_inv }) ∙ c.signed-delay.ensures
 
-returns-3 : tie.Need-returns-3
+returns-then-delay-ltminus64 : tie.Need-returns-then-delay-ltminus64
 unfolding dep_checks first_refusal
-returns-3 c =
+returns-then-delay-ltminus64 c =
     let p = ends c.before.before.before in
-    rw (p.0, p.1, outside_range, rw (delay c.before) at c.if3.true)
+    rw (p.0, p.1, outside_range, rw (delay c.before) at c.if-delay-ltminus64.true)
 
-add-t14 : tie.Need-overflow-add-t14
-add-t14 c = omega arith
+overflow_add-result-then-delay-gt64 : tie.Need-overflow_add-result-then-delay-gt64
+overflow_add-result-then-delay-gt64 c = omega arith
 
-returns-4 : tie.Need-returns-4
+returns-then-delay-gt64 : tie.Need-returns-then-delay-gt64
 unfolding dep_checks first_refusal
-returns-4 c =
+returns-then-delay-gt64 c =
     let p = ends c.before.before.before.before in
     let d = delay c.before.before in
-    rw (p.0, p.1, outside_range, rw d at c.before.if3.false, rw d at c.if4.true)
+    rw (p.0, p.1, outside_range, rw d at c.before.if-delay-ltminus64.false, rw d at c.if-delay-gt64.true)
 
-add-if5 : tie.Need-overflow-add-if5
-add-if5 c = omega arith
+overflow_add-at-3 : tie.Need-overflow_add-at-3
+overflow_add-at-3 c = omega arith
 
-shared-slice-read-if5 : tie.Need-shared-slice-read-if5
-shared-slice-read-if5 c = omega arith
+bounds-file-at-4 : tie.Need-bounds-file-at-4
+bounds-file-at-4 c = omega arith
 
-add-t16 : tie.Need-overflow-add-t16
-add-t16 c = omega arith
+overflow_add-result-then-file-at-gt15 : tie.Need-overflow_add-result-then-file-at-gt15
+overflow_add-result-then-file-at-gt15 c = omega arith
 
 -- the delay is in range
-delay_right : (c : tie.Else4) → let a = c.before.before.before.before.before.before.before.before.before.before.before.args in
+delay_right : (c : tie.Else-delay-gt64) → let a = c.before.before.before.before.before.before.before.before.before.before.before.args in
     let z = signed_byte (byte_at a.file.now (a.at + 2)) in
     not (le_z (negsuc 63) z && le_z z (pos 64)) ≡ false
 delay_right c =
     let d = delay c.before.before in
-    rw (outside_range, rw d at c.before.if3.false, rw d at c.if4.false)
+    rw (outside_range, rw d at c.before.if-delay-ltminus64.false, rw d at c.if-delay-gt64.false)
 
-returns-5 : tie.Need-returns-5
+returns-then-file-at-gt15 : tie.Need-returns-then-file-at-gt15
 unfolding dep_checks first_refusal
-returns-5 c =
+returns-then-file-at-gt15 c =
     let p = ends c.before.before.before.before.before.before in
-    rw (p.0, p.1, delay_right c.before.before, lt-ltb _ _ c.if5.true)
+    rw (p.0, p.1, delay_right c.before.before, lt-ltb _ _ c.if-file-at-gt15.true)
 
-returns-6 : tie.Need-returns-6
+returns : tie.Need-returns
 unfolding dep_checks first_refusal
-returns-6 c =
+returns c =
     let p = ends c.before.before.before.before.before.before in
-    rw (p.0, p.1, delay_right c.before.before, le-ltb _ _ c.if5.false)
+    rw (p.0, p.1, delay_right c.before.before, le-ltb _ _ c.if-file-at-gt15.false)
 
 pub dep_spec : {M : Type 1} → statement M
 dep_spec =
     tie.close
     (tie.spec
-    shared-slice-read-wide
+    bounds-file-at
     wide-requires
-    returns
-    add_wide
-    shared-slice-read-wide-2
+    returns-then-n-wide
+    overflow_add-at
+    bounds-file-at-2
     wide-requires-2
-    add-t11
-    returns-2
-    add-signed
-    shared-slice-read-signed
-    signed-requires
-    add-t13
-    returns-3
-    add-t14
-    returns-4
-    add-if5
-    shared-slice-read-if5
-    add-t16
-    returns-5
-    returns-6)
+    overflow_add-result
+    returns-then-n-wide-2
+    overflow_add-at-2
+    bounds-file-at-3
+    signed-delay-requires
+    overflow_add-result-then-delay-ltminus64
+    returns-then-delay-ltminus64
+    overflow_add-result-then-delay-gt64
+    returns-then-delay-gt64
+    overflow_add-at-3
+    bounds-file-at-4
+    overflow_add-result-then-file-at-gt15
+    returns-then-file-at-gt15
+    returns)

@@ -10,46 +10,46 @@ use Rattle.model.specs.File.{longest, length_checks, head_checks}
 use Rattle.loop_file.proofs.reader.head.Statement.{statement}
 use Rattle.loop_file.proofs.reader.head.Tie as tie
 
-returns : tie.Need-returns
+returns-then-n-lt26 : tie.Need-returns-then-n-lt26
 unfolding first_refusal length_checks head_checks
-returns c =
+returns-then-n-lt26 c =
     let short : length c.before.args.file.now ≤ longest + 1 = omega arith in
     search (lt-ltb, min-eq_left)
 
-add-t4 : tie.Need-overflow-add-t4
-add-t4 c = search rules
+overflow_add-result : tie.Need-overflow_add-result
+overflow_add-result c = search rules
 
-returns-2 : tie.Need-returns-2
+returns-then-n-gt-LONGEST : tie.Need-returns-then-n-gt-LONGEST
 unfolding first_refusal length_checks head_checks
-returns-2 c = search (lt-ltb, le-ltb, min-eq_right)
+returns-then-n-gt-LONGEST c = search (lt-ltb, le-ltb, min-eq_right)
 
-shared-slice-read-if3 : tie.Need-shared-slice-read-if3
-shared-slice-read-if3 c = search rules
+bounds-file-0 : tie.Need-bounds-file-0
+bounds-file-0 c = search rules
 
-returns-3 : tie.Need-returns-3
+returns-then-file-ne1 : tie.Need-returns-then-file-ne1
 unfolding first_refusal length_checks head_checks
-returns-3 c = search (le-ltb, ne_eqb)
+returns-then-file-ne1 c = search (le-ltb, ne_eqb)
 
-shared-slice-read-if4 : tie.Need-shared-slice-read-if4
-shared-slice-read-if4 c = search rules
+bounds-file-1 : tie.Need-bounds-file-1
+bounds-file-1 c = search rules
 
-returns-4 : tie.Need-returns-4
+returns-then-file-ne3 : tie.Need-returns-then-file-ne3
 unfolding first_refusal length_checks head_checks
-returns-4 c = search (le-ltb, eq-eqb, ne_eqb)
+returns-then-file-ne3 c = search (le-ltb, eq-eqb, ne_eqb)
 
-returns-5 : tie.Need-returns-5
+returns : tie.Need-returns
 unfolding first_refusal length_checks head_checks
-returns-5 c = search (le-ltb, eq-eqb)
+returns c = search (le-ltb, eq-eqb)
 
 pub head_spec : {M : Type 1} → statement M
 head_spec =
     tie.close
     (tie.spec
-    returns
-    add-t4
-    returns-2
-    shared-slice-read-if3
-    returns-3
-    shared-slice-read-if4
-    returns-4
-    returns-5)
+    returns-then-n-lt26
+    overflow_add-result
+    returns-then-n-gt-LONGEST
+    bounds-file-0
+    returns-then-file-ne1
+    bounds-file-1
+    returns-then-file-ne3
+    returns)

@@ -15,119 +15,119 @@ use Rattle.loop_file.proofs.Tables.{refused_at, passed_all}
 use Rattle.loop_file.proofs.reader.op_uses.Statement.{statement}
 use Rattle.loop_file.proofs.reader.op_uses.Tie as tie
 
-abbrev invariant-loop : tie.invariant-loop
-invariant-loop file first n below₀ j₀ below j = (j ≤ n) × (below ≡ slot_below file first j) × (first_refusal (op_use_checks file first j) ≡ none)
+abbrev invariant-loop-j : tie.invariant-loop-j
+invariant-loop-j file first n below₀ j₀ below j = (j ≤ n) × (below ≡ slot_below file first j) × (first_refusal (op_use_checks file first j) ≡ none)
 
-abbrev decreases-loop : tie.decreases-loop
-decreases-loop file first n below₀ j₀ below j = n - j
+abbrev decreases-loop-j : tie.decreases-loop-j
+decreases-loop-j file first n below₀ j₀ below j = n - j
 
-loop-holds : tie.Need-loop-init invariant-loop decreases-loop
+loop-j-init : tie.Need-loop-j-init invariant-loop-j decreases-loop-j
 unfolding op_use_checks
-loop-holds c = (omega arith, refl, row_start _)
+loop-j-init c = (omega arith, refl, row_start _)
 
-mul_at : tie.Need-overflow-mul-at invariant-loop decreases-loop
-mul_at c = omega arith
+overflow_mul-at : tie.Need-overflow_mul-at invariant-loop-j decreases-loop-j
+overflow_mul-at c = omega arith
 
-add_at : tie.Need-overflow-add-at invariant-loop decreases-loop
-add_at c = omega arith
+overflow_add-at : tie.Need-overflow_add-at invariant-loop-j decreases-loop-j
+overflow_add-at c = omega arith
 
-shared-slice-read-wide : tie.Need-shared-slice-read-wide invariant-loop decreases-loop
-shared-slice-read-wide c = omega arith
+bounds-file-at : tie.Need-bounds-file-at invariant-loop-j decreases-loop-j
+bounds-file-at c = omega arith
 
-wide-requires : tie.Need-wide-requires invariant-loop decreases-loop
-wide-requires c κs = tt
+wide-slot-requires : tie.Need-wide-slot-requires invariant-loop-j decreases-loop-j
+wide-slot-requires c κs = tt
 
-returns : tie.Need-returns invariant-loop decreases-loop
+returns-then-slot-below : tie.Need-returns-then-slot-below invariant-loop-j decreases-loop-j
 unfolding op_use_checks use_checks first_refusal
-returns c =
-    let l = c.before.before.before.before.loop in
-    refused_at _ l.j _ _ (omega arith) l.invariant.2 (rw (← c.before.wide.ensures.0, ← l.invariant.1, le-leb _ _ c.if1.true))
+returns-then-slot-below c =
+    let l = c.before.before.before.before.loop-j in
+    refused_at _ l.j _ _ (omega arith) l.invariant.2 (rw (← c.before.wide-slot.ensures.0, ← l.invariant.1, le-leb _ _ c.if-slot-below.true))
 
-returns-2 : tie.Need-returns-2 invariant-loop decreases-loop
+returns-then-slot-gt24 : tie.Need-returns-then-slot-gt24 invariant-loop-j decreases-loop-j
 unfolding op_use_checks use_checks first_refusal
-returns-2 c =
-    let l = c.before.before.before.before.before.loop in
+returns-then-slot-gt24 c =
+    let l = c.before.before.before.before.before.loop-j in
     refused_at _ l.j _ _ (omega arith) l.invariant.2
-    (rw (← c.before.before.wide.ensures.0, ← l.invariant.1, lt-leb _ _ c.before.if1.false, lt-ltb _ _ c.if2.true))
+    (rw (← c.before.before.wide-slot.ensures.0, ← l.invariant.1, lt-leb _ _ c.before.if-slot-below.false, lt-ltb _ _ c.if-slot-gt24.true))
 
-add_wide : tie.Need-overflow-add-wide invariant-loop decreases-loop
-add_wide c = omega arith
+overflow_add-at-in-loop-j : tie.Need-overflow_add-at-in-loop-j invariant-loop-j decreases-loop-j
+overflow_add-at-in-loop-j c = omega arith
 
-shared-slice-read-wide-2 : tie.Need-shared-slice-read-wide-2 invariant-loop decreases-loop
-shared-slice-read-wide-2 c = omega arith
+bounds-file-at-in-loop-j : tie.Need-bounds-file-at-in-loop-j invariant-loop-j decreases-loop-j
+bounds-file-at-in-loop-j c = omega arith
 
-wide-requires-2 : tie.Need-wide-requires-2 invariant-loop decreases-loop
-wide-requires-2 c κs = tt
+wide-duration-requires : tie.Need-wide-duration-requires invariant-loop-j decreases-loop-j
+wide-duration-requires c κs = tt
 
-add-t14 : tie.Need-overflow-add-t14 invariant-loop decreases-loop
-add-t14 c = omega arith
+overflow_add-result : tie.Need-overflow_add-result invariant-loop-j decreases-loop-j
+overflow_add-result c = omega arith
 
 -- after the slot's two tests its check does not fail
-slot_right : (c : tie.Else2 invariant-loop decreases-loop) → let a = c.before.before.before.before.before.before.before.args in
-    let j = c.before.before.before.before.before.loop.j in
+slot_right : (c : tie.Else-slot-gt24 invariant-loop-j decreases-loop-j) → let a = c.before.before.before.before.before.before.before.args in
+    let j = c.before.before.before.before.before.loop-j.j in
     let slot = byte_at a.file.now (a.first + use_width * j) in
     (leb slot (slot_below a.file.now a.first j) || ltb 24 slot) ≡ false
 slot_right c =
-    let l = c.before.before.before.before.before.loop in
-    rw (← c.before.before.wide.ensures.0, ← l.invariant.1, lt-leb _ _ c.before.if1.false, le-ltb _ _ c.if2.false)
+    let l = c.before.before.before.before.before.loop-j in
+    rw (← c.before.before.wide-slot.ensures.0, ← l.invariant.1, lt-leb _ _ c.before.if-slot-below.false, le-ltb _ _ c.if-slot-gt24.false)
 
-returns-3 : tie.Need-returns-3 invariant-loop decreases-loop
+returns-then-duration-lt1 : tie.Need-returns-then-duration-lt1 invariant-loop-j decreases-loop-j
 unfolding op_use_checks use_checks first_refusal
-returns-3 c =
-    let l = c.before.before.before.before.before.before.before.before.loop in
-    refused_at _ l.j _ _ (omega arith) l.invariant.2 (rw (slot_right c.before.before.before, ← c.before.wide2.ensures.0, le-leb c.before.wide2.result 0 (omega (arith, c.if3.true))))
+returns-then-duration-lt1 c =
+    let l = c.before.before.before.before.before.before.before.before.loop-j in
+    refused_at _ l.j _ _ (omega arith) l.invariant.2 (rw (slot_right c.before.before.before, ← c.before.wide-duration.ensures.0, le-leb c.before.wide-duration.result 0 (omega (arith, c.if-duration-lt1.true))))
 
-add-t15 : tie.Need-overflow-add-t15 invariant-loop decreases-loop
-add-t15 c = omega arith
+overflow_add-result-then-duration-gt16 : tie.Need-overflow_add-result-then-duration-gt16 invariant-loop-j decreases-loop-j
+overflow_add-result-then-duration-gt16 c = omega arith
 
-returns-4 : tie.Need-returns-4 invariant-loop decreases-loop
+returns-then-duration-gt16 : tie.Need-returns-then-duration-gt16 invariant-loop-j decreases-loop-j
 unfolding op_use_checks use_checks first_refusal
-returns-4 c =
-    let l = c.before.before.before.before.before.before.before.before.before.loop in
+returns-then-duration-gt16 c =
+    let l = c.before.before.before.before.before.before.before.before.before.loop-j in
     refused_at _ l.j _ _ (omega arith) l.invariant.2
-    (rw (slot_right c.before.before.before.before, ← c.before.before.wide2.ensures.0, lt-leb c.before.before.wide2.result 0 c.before.if3.false, lt-ltb _ _ c.if4.true))
+    (rw (slot_right c.before.before.before.before, ← c.before.before.wide-duration.ensures.0, lt-leb c.before.before.wide-duration.result 0 c.before.if-duration-lt1.false, lt-ltb _ _ c.if-duration-gt16.true))
 
-add-j : tie.Need-overflow-add-j invariant-loop decreases-loop
-add-j c = omega arith
+overflow_add-j : tie.Need-overflow_add-j invariant-loop-j decreases-loop-j
+overflow_add-j c = omega arith
 
-loop-less : tie.Need-loop-smaller invariant-loop decreases-loop
-loop-less c = omega arith
+loop-j-smaller : tie.Need-loop-j-smaller invariant-loop-j decreases-loop-j
+loop-j-smaller c = omega arith
 
-loop-again : tie.Need-loop-preserved invariant-loop decreases-loop
+loop-j-preserved : tie.Need-loop-j-preserved invariant-loop-j decreases-loop-j
 unfolding op_use_checks use_checks first_refusal
-loop-again c =
-    let l = c.before.before.before.before.before.before.before.before.before.loop in (
+loop-j-preserved c =
+    let l = c.before.before.before.before.before.before.before.before.before.loop-j in (
       omega arith,
-      rw (add-one l.j) c.before.before.before.before.before.before.wide.ensures.0,
+      rw (add-one l.j) c.before.before.before.before.before.before.wide-slot.ensures.0,
       row_next _ l.j l.invariant.2
-          (rw (slot_right c.before.before.before.before, ← c.before.before.wide2.ensures.0, lt-leb c.before.before.wide2.result 0 c.before.if3.false, le-ltb _ _ c.if4.false)),
+          (rw (slot_right c.before.before.before.before, ← c.before.before.wide-duration.ensures.0, lt-leb c.before.before.wide-duration.result 0 c.before.if-duration-lt1.false, le-ltb _ _ c.if-duration-gt16.false)),
     )
 
-returns-5 : tie.Need-returns-5 invariant-loop decreases-loop
+returns : tie.Need-returns invariant-loop-j decreases-loop-j
 unfolding op_use_checks
-returns-5 c = passed_all _ c.before.loop.j _ (omega arith) c.before.loop.invariant.2 refl
+returns c = passed_all _ c.before.loop-j.j _ (omega arith) c.before.loop-j.invariant.2 refl
 
 pub op_uses_spec : {M : Type 1} → statement M
 op_uses_spec =
     tie.close
     (tie.spec
-    invariant-loop
-    decreases-loop
-    loop-holds
-    mul_at
-    add_at
-    shared-slice-read-wide
-    wide-requires
-    returns
-    returns-2
-    add_wide
-    shared-slice-read-wide-2
-    wide-requires-2
-    add-t14
-    returns-3
-    add-t15
-    returns-4
-    add-j
-    loop-less
-    loop-again
-    returns-5)
+    invariant-loop-j
+    decreases-loop-j
+    loop-j-init
+    overflow_mul-at
+    overflow_add-at
+    bounds-file-at
+    wide-slot-requires
+    returns-then-slot-below
+    returns-then-slot-gt24
+    overflow_add-at-in-loop-j
+    bounds-file-at-in-loop-j
+    wide-duration-requires
+    overflow_add-result
+    returns-then-duration-lt1
+    overflow_add-result-then-duration-gt16
+    returns-then-duration-gt16
+    overflow_add-j
+    loop-j-smaller
+    loop-j-preserved
+    returns)

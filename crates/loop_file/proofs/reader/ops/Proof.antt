@@ -13,72 +13,72 @@ use Rattle.loop_file.proofs.Tables.{refused_at, passed_all, first_use_next}
 use Rattle.loop_file.proofs.reader.ops.Statement.{statement}
 use Rattle.loop_file.proofs.reader.ops.Tie as tie
 
-abbrev invariant-loop : tie.invariant-loop
-invariant-loop file n sum₀ o₀ sum o = (o ≤ n) × (sum ≡ first_use file o) × (sum ≤ 4 * o) × (first_refusal (ops_table file o) ≡ none)
+abbrev invariant-loop-o : tie.invariant-loop-o
+invariant-loop-o file n sum₀ o₀ sum o = (o ≤ n) × (sum ≡ first_use file o) × (sum ≤ 4 * o) × (first_refusal (ops_table file o) ≡ none)
 
-abbrev decreases-loop : tie.decreases-loop
-decreases-loop file n sum₀ o₀ sum o = n - o
+abbrev decreases-loop-o : tie.decreases-loop-o
+decreases-loop-o file n sum₀ o₀ sum o = n - o
 
-loop-holds : tie.Need-loop-init invariant-loop decreases-loop
+loop-o-init : tie.Need-loop-o-init invariant-loop-o decreases-loop-o
 unfolding first_use
-loop-holds c = (omega arith, refl, omega arith, row_start _)
+loop-o-init c = (omega arith, refl, omega arith, row_start _)
 
-mul_at : tie.Need-overflow-mul-at invariant-loop decreases-loop
-mul_at c = omega arith
+overflow_mul-at : tie.Need-overflow_mul-at invariant-loop-o decreases-loop-o
+overflow_mul-at c = omega arith
 
-add_at : tie.Need-overflow-add-at invariant-loop decreases-loop
-add_at c = omega arith
+overflow_add-at : tie.Need-overflow_add-at invariant-loop-o decreases-loop-o
+overflow_add-at c = omega arith
 
-shared-slice-read-if1 : tie.Need-shared-slice-read-if1 invariant-loop decreases-loop
-shared-slice-read-if1 c = omega arith
+bounds-file-at : tie.Need-bounds-file-at invariant-loop-o decreases-loop-o
+bounds-file-at c = omega arith
 
-returns : tie.Need-returns invariant-loop decreases-loop
+returns-then-file-at-gt64 : tie.Need-returns-then-file-at-gt64 invariant-loop-o decreases-loop-o
 unfolding op_checks first_refusal
-returns c =
-    let l = c.before.before.before.loop in
-    refused_at _ l.o _ _ (omega arith) l.invariant.3 (rw (lt-ltb _ _ c.if1.true))
+returns-then-file-at-gt64 c =
+    let l = c.before.before.before.loop-o in
+    refused_at _ l.o _ _ (omega arith) l.invariant.3 (rw (lt-ltb _ _ c.if-file-at-gt64.true))
 
-add_wide : tie.Need-overflow-add-wide invariant-loop decreases-loop
-add_wide c = omega arith
+overflow_add-at-in-loop-o : tie.Need-overflow_add-at-in-loop-o invariant-loop-o decreases-loop-o
+overflow_add-at-in-loop-o c = omega arith
 
-shared-slice-read-wide : tie.Need-shared-slice-read-wide invariant-loop decreases-loop
-shared-slice-read-wide c = omega arith
+bounds-file-at-in-loop-o : tie.Need-bounds-file-at-in-loop-o invariant-loop-o decreases-loop-o
+bounds-file-at-in-loop-o c = omega arith
 
-wide-requires : tie.Need-wide-requires invariant-loop decreases-loop
-wide-requires c κs = tt
+wide-k-requires : tie.Need-wide-k-requires invariant-loop-o decreases-loop-o
+wide-k-requires c κs = tt
 
-add-t12 : tie.Need-overflow-add-t12 invariant-loop decreases-loop
-add-t12 c = omega arith
+overflow_add-result : tie.Need-overflow_add-result invariant-loop-o decreases-loop-o
+overflow_add-result c = omega arith
 
-returns-2 : tie.Need-returns-2 invariant-loop decreases-loop
+returns-then-k-gt4 : tie.Need-returns-then-k-gt4 invariant-loop-o decreases-loop-o
 unfolding op_checks first_refusal
-returns-2 c =
-    let l = c.before.before.before.before.before.before.loop in
+returns-then-k-gt4 c =
+    let l = c.before.before.before.before.before.before.loop-o in
     refused_at _ l.o _ _ (omega arith) l.invariant.3
-    (rw (le-ltb _ _ c.before.before.before.if1.false, ← c.before.wide.ensures.0, lt-ltb _ _ c.if2.true))
+    (rw (le-ltb _ _ c.before.before.before.if-file-at-gt64.false, ← c.before.wide-k.ensures.0, lt-ltb _ _ c.if-k-gt4.true))
 
-add-sum : tie.Need-overflow-add-sum invariant-loop decreases-loop
-add-sum c = omega arith
+overflow_add-sum : tie.Need-overflow_add-sum invariant-loop-o decreases-loop-o
+overflow_add-sum c = omega arith
 
-add-o : tie.Need-overflow-add-o invariant-loop decreases-loop
-add-o c = omega arith
+overflow_add-o : tie.Need-overflow_add-o invariant-loop-o decreases-loop-o
+overflow_add-o c = omega arith
 
-loop-less : tie.Need-loop-smaller invariant-loop decreases-loop
-loop-less c = omega arith
+loop-o-smaller : tie.Need-loop-o-smaller invariant-loop-o decreases-loop-o
+loop-o-smaller c = omega arith
 
-loop-again : tie.Need-loop-preserved invariant-loop decreases-loop
+loop-o-preserved : tie.Need-loop-o-preserved invariant-loop-o decreases-loop-o
 unfolding op_checks first_refusal
-loop-again c =
-    let l = c.before.before.before.before.before.before.loop in (
+loop-o-preserved c =
+    let l = c.before.before.before.before.before.before.loop-o in (
       omega arith,
       omega (arith, first_use_next c.before.before.before.before.before.before.before.before.args.file.now l.o),
       omega arith,
-      row_next _ l.o l.invariant.3 (rw (le-ltb _ _ c.before.before.before.if1.false, ← c.before.wide.ensures.0, le-ltb _ _ c.if2.false)),
+      row_next _ l.o l.invariant.3 (rw (le-ltb _ _ c.before.before.before.if-file-at-gt64.false, ← c.before.wide-k.ensures.0, le-ltb _ _ c.if-k-gt4.false)),
     )
 
-returns-3 : tie.Need-returns-3 invariant-loop decreases-loop
-returns-3 c =
-    let l = c.before.loop in
+returns : tie.Need-returns invariant-loop-o decreases-loop-o
+returns c =
+    let l = c.before.loop-o in
     let a = c.before.before.before.args in
     let e : l.o ≡ a.n = omega arith in
     passed_all _ l.o _ e l.invariant.3 (l.invariant.1 ∙ ap (first_use a.file.now) e)
@@ -87,20 +87,20 @@ pub ops_spec : {M : Type 1} → statement M
 ops_spec =
     tie.close
     (tie.spec
-    invariant-loop
-    decreases-loop
-    loop-holds
-    mul_at
-    add_at
-    shared-slice-read-if1
-    returns
-    add_wide
-    shared-slice-read-wide
-    wide-requires
-    add-t12
-    returns-2
-    add-sum
-    add-o
-    loop-less
-    loop-again
-    returns-3)
+    invariant-loop-o
+    decreases-loop-o
+    loop-o-init
+    overflow_mul-at
+    overflow_add-at
+    bounds-file-at
+    returns-then-file-at-gt64
+    overflow_add-at-in-loop-o
+    bounds-file-at-in-loop-o
+    wide-k-requires
+    overflow_add-result
+    returns-then-k-gt4
+    overflow_add-sum
+    overflow_add-o
+    loop-o-smaller
+    loop-o-preserved
+    returns)

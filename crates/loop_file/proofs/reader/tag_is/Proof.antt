@@ -22,68 +22,68 @@ four_stand f i tag =
     let three : i + 3 ≡ suc (suc (suc i)) = omega arith in
     simp (add-one, two, three, and-true)
 
-shared-slice-read-if1 : tie.Need-shared-slice-read-if1
-shared-slice-read-if1 c = omega arith
+bounds-file-at : tie.Need-bounds-file-at
+bounds-file-at c = omega arith
 
-element-copy-out-if1 : tie.Need-element-copy-out-if1
-element-copy-out-if1 c = omega arith
+bounds-tag-0 : tie.Need-bounds-tag-0
+bounds-tag-0 c = omega arith
+
+returns-then-file-at : tie.Need-returns-then-file-at
+returns-then-file-at c = rw (four_stand, ne_eqb _ _ c.if-file-at.true)
+
+overflow_add-at : tie.Need-overflow_add-at
+overflow_add-at c = omega arith
+
+bounds-file-at-2 : tie.Need-bounds-file-at-2
+bounds-file-at-2 c = omega arith
+
+bounds-tag-1 : tie.Need-bounds-tag-1
+bounds-tag-1 c = omega arith
+
+returns-then-file-at-2 : tie.Need-returns-then-file-at-2
+returns-then-file-at-2 c = rw (four_stand, eq-eqb _ _ c.before.before.before.if-file-at.false, ne_eqb _ _ c.if-file-at-2.true)
+
+overflow_add-at-2 : tie.Need-overflow_add-at-2
+overflow_add-at-2 c = omega arith
+
+bounds-file-at-3 : tie.Need-bounds-file-at-3
+bounds-file-at-3 c = omega arith
+
+bounds-tag-2 : tie.Need-bounds-tag-2
+bounds-tag-2 c = omega arith
+
+returns-then-file-at-3 : tie.Need-returns-then-file-at-3
+returns-then-file-at-3 c = rw (four_stand, eq-eqb _ _ c.before.before.before.before.before.before.if-file-at.false, eq-eqb _ _ c.before.before.before.if-file-at-2.false, ne_eqb _ _ c.if-file-at-3.true)
+
+overflow_add-result : tie.Need-overflow_add-result
+overflow_add-result c = omega arith
+
+bounds-file-at-4 : tie.Need-bounds-file-at-4
+bounds-file-at-4 c = omega arith
+
+bounds-tag-3 : tie.Need-bounds-tag-3
+bounds-tag-3 c = omega arith
 
 returns : tie.Need-returns
-returns c = rw (four_stand, ne_eqb _ _ c.if1.true)
-
-add-if2 : tie.Need-overflow-add-if2
-add-if2 c = omega arith
-
-shared-slice-read-if2 : tie.Need-shared-slice-read-if2
-shared-slice-read-if2 c = omega arith
-
-element-copy-out-if2 : tie.Need-element-copy-out-if2
-element-copy-out-if2 c = omega arith
-
-returns-2 : tie.Need-returns-2
-returns-2 c = rw (four_stand, eq-eqb _ _ c.before.before.before.if1.false, ne_eqb _ _ c.if2.true)
-
-add-if3 : tie.Need-overflow-add-if3
-add-if3 c = omega arith
-
-shared-slice-read-if3 : tie.Need-shared-slice-read-if3
-shared-slice-read-if3 c = omega arith
-
-element-copy-out-if3 : tie.Need-element-copy-out-if3
-element-copy-out-if3 c = omega arith
-
-returns-3 : tie.Need-returns-3
-returns-3 c = rw (four_stand, eq-eqb _ _ c.before.before.before.before.before.before.if1.false, eq-eqb _ _ c.before.before.before.if2.false, ne_eqb _ _ c.if3.true)
-
-add-result : tie.Need-overflow-add-result
-add-result c = omega arith
-
-shared-slice-read-result : tie.Need-shared-slice-read-result
-shared-slice-read-result c = omega arith
-
-element-copy-out-result : tie.Need-element-copy-out-result
-element-copy-out-result c = omega arith
-
-returns-4 : tie.Need-returns-4
-returns-4 c =
-    rw (four_stand, eq-eqb _ _ c.before.before.before.before.before.before.before.before.if1.false, eq-eqb _ _ c.before.before.before.before.before.if2.false, eq-eqb _ _ c.before.before.if3.false)
+returns c =
+    rw (four_stand, eq-eqb _ _ c.before.before.before.before.before.before.before.before.if-file-at.false, eq-eqb _ _ c.before.before.before.before.before.if-file-at-2.false, eq-eqb _ _ c.before.before.if-file-at-3.false)
 
 pub tag_is_spec : {M : Type 1} → statement M
 tag_is_spec =
     tie.close
     (tie.spec
-    shared-slice-read-if1
-    element-copy-out-if1
-    returns
-    add-if2
-    shared-slice-read-if2
-    element-copy-out-if2
-    returns-2
-    add-if3
-    shared-slice-read-if3
-    element-copy-out-if3
-    returns-3
-    add-result
-    shared-slice-read-result
-    element-copy-out-result
-    returns-4)
+    bounds-file-at
+    bounds-tag-0
+    returns-then-file-at
+    overflow_add-at
+    bounds-file-at-2
+    bounds-tag-1
+    returns-then-file-at-2
+    overflow_add-at-2
+    bounds-file-at-3
+    bounds-tag-2
+    returns-then-file-at-3
+    overflow_add-result
+    bounds-file-at-4
+    bounds-tag-3
+    returns)

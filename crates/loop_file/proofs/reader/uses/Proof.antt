@@ -14,100 +14,100 @@ use Rattle.loop_file.proofs.Tables.{passed_all, part_fine, part_refused, first_u
 use Rattle.loop_file.proofs.reader.uses.Statement.{statement}
 use Rattle.loop_file.proofs.reader.uses.Tie as tie
 
-abbrev invariant-loop : tie.invariant-loop
-invariant-loop file start n first₀ o₀ first o = (o ≤ n) × (first ≡ start + 2 * first_use file o) × (first_refusal (uses_table file start o) ≡ none)
+abbrev invariant-loop-o : tie.invariant-loop-o
+invariant-loop-o file start n first₀ o₀ first o = (o ≤ n) × (first ≡ start + 2 * first_use file o) × (first_refusal (uses_table file start o) ≡ none)
 
-abbrev decreases-loop : tie.decreases-loop
-decreases-loop file start n first₀ o₀ first o = n - o
+abbrev decreases-loop-o : tie.decreases-loop-o
+decreases-loop-o file start n first₀ o₀ first o = n - o
 
-loop-holds : tie.Need-loop-init invariant-loop decreases-loop
+loop-o-init : tie.Need-loop-o-init invariant-loop-o decreases-loop-o
 unfolding first_use
-loop-holds c = (omega arith, omega arith, row_start _)
+loop-o-init c = (omega arith, omega arith, row_start _)
 
-mul_wide : tie.Need-overflow-mul-wide invariant-loop decreases-loop
-mul_wide c = omega arith
+overflow_mul-o : tie.Need-overflow_mul-o invariant-loop-o decreases-loop-o
+overflow_mul-o c = omega arith
 
-add_wide : tie.Need-overflow-add-wide invariant-loop decreases-loop
-add_wide c = omega arith
+overflow_add-o : tie.Need-overflow_add-o invariant-loop-o decreases-loop-o
+overflow_add-o c = omega arith
 
-add-wide-2 : tie.Need-overflow-add-wide-2 invariant-loop decreases-loop
-add-wide-2 c = omega arith
+overflow_add-o-in-loop-o : tie.Need-overflow_add-o-in-loop-o invariant-loop-o decreases-loop-o
+overflow_add-o-in-loop-o c = omega arith
 
-shared-slice-read-wide : tie.Need-shared-slice-read-wide invariant-loop decreases-loop
-shared-slice-read-wide c = omega arith
+bounds-file-o : tie.Need-bounds-file-o invariant-loop-o decreases-loop-o
+bounds-file-o c = omega arith
 
-wide-requires : tie.Need-wide-requires invariant-loop decreases-loop
-wide-requires c κs = tt
+wide-k-requires : tie.Need-wide-k-requires invariant-loop-o decreases-loop-o
+wide-k-requires c κs = tt
 
 -- the uses of the operation lie inside the file
-inside : (c : tie.After-wide invariant-loop decreases-loop) → let a = c.before.before.before.before.before.args in
-    c.before.before.before.loop.first + 2 * c.wide.result ≤ length a.file.now
+inside : (c : tie.After-wide-k invariant-loop-o decreases-loop-o) → let a = c.before.before.before.before.before.args in
+    c.before.before.before.loop-o.first + 2 * c.wide-k.result ≤ length a.file.now
 inside c =
     let a = c.before.before.before.before.before.args in
-    omega (arith, first_use_le a.file.now c.before.before.before.loop.o a.n (omega arith))
+    omega (arith, first_use_le a.file.now c.before.before.before.loop-o.o a.n (omega arith))
 
-op-uses-requires : tie.Need-op-uses-requires invariant-loop decreases-loop
-op-uses-requires c κs = (inside c, omega arith)
+op_uses-one-requires : tie.Need-op_uses-one-requires invariant-loop-o decreases-loop-o
+op_uses-one-requires c κs = (inside c, omega arith)
 
-enum_told : tie.Need-enum-told invariant-loop decreases-loop
-enum_told c = c.match.keys1
+enum_told-1 : tie.Need-enum_told-1 invariant-loop-o decreases-loop-o
+enum_told-1 c = c.match.keys1
 
-enum-told-2 : tie.Need-enum-told-2 invariant-loop decreases-loop
-enum-told-2 c = c.match.keys2
+enum_told-in_default : tie.Need-enum_told-in_default invariant-loop-o decreases-loop-o
+enum_told-in_default c = c.match.keys2
 
 -- what `op_uses` says, of the operation's own table
-one : (c : tie.After-op-uses invariant-loop decreases-loop) → let a = c.before.before.before.before.before.before.args in
-    let l = c.before.before.before.before.loop in
-    part_of c.op-uses.result ≡ settle (op_use_checks a.file.now (a.start + 2 * first_use a.file.now l.o) (uses_of a.file.now l.o)) 0
-one c = rw (c.before.before.before.before.loop.invariant.1, c.before.wide.ensures.0) at c.op-uses.ensures
+one : (c : tie.After-op_uses-one invariant-loop-o decreases-loop-o) → let a = c.before.before.before.before.before.before.args in
+    let l = c.before.before.before.before.loop-o in
+    part_of c.op_uses-one.result ≡ settle (op_use_checks a.file.now (a.start + 2 * first_use a.file.now l.o) (uses_of a.file.now l.o)) 0
+one c = rw (c.before.before.before.before.loop-o.invariant.1, c.before.wide-k.ensures.0) at c.op_uses-one.ensures
 
-returns : tie.Need-returns invariant-loop decreases-loop
-returns c =
-    let l = c.before.before.before.before.before.before.loop in
-    part_refused _ l.o _ (omega arith) l.invariant.2 c.enum-told2.given.1 (one c.before.before)
+returns-in_default : tie.Need-returns-in_default invariant-loop-o decreases-loop-o
+returns-in_default c =
+    let l = c.before.before.before.before.before.before.loop-o in
+    part_refused _ l.o _ (omega arith) l.invariant.2 c.enum_told-in_default-1.given.1 (one c.before.before)
 
-mul-first : tie.Need-overflow-mul-first invariant-loop decreases-loop
-mul-first c = omega arith
+overflow_mul-first : tie.Need-overflow_mul-first invariant-loop-o decreases-loop-o
+overflow_mul-first c = omega arith
 
-add-first : tie.Need-overflow-add-first invariant-loop decreases-loop
-add-first c = omega (arith, inside c.before.before.before)
+overflow_add-first : tie.Need-overflow_add-first invariant-loop-o decreases-loop-o
+overflow_add-first c = omega (arith, inside c.before.before.before)
 
-add-o : tie.Need-overflow-add-o invariant-loop decreases-loop
-add-o c = omega arith
+overflow_add-o-in-loop-o-2 : tie.Need-overflow_add-o-in-loop-o-2 invariant-loop-o decreases-loop-o
+overflow_add-o-in-loop-o-2 c = omega arith
 
-loop-less : tie.Need-loop-smaller invariant-loop decreases-loop
-loop-less c = omega arith
+loop-o-smaller : tie.Need-loop-o-smaller invariant-loop-o decreases-loop-o
+loop-o-smaller c = omega arith
 
-loop-again : tie.Need-loop-preserved invariant-loop decreases-loop
-loop-again c =
-    let l = c.before.before.before.before.before.before.loop in (
+loop-o-preserved : tie.Need-loop-o-preserved invariant-loop-o decreases-loop-o
+loop-o-preserved c =
+    let l = c.before.before.before.before.before.before.loop-o in (
       omega arith,
       omega (arith, first_use_next c.before.before.before.before.before.before.before.before.args.file.now l.o),
-      row_next _ l.o l.invariant.2 (part_fine _ c.enum_told.given.1 (one c.before.before)),
+      row_next _ l.o l.invariant.2 (part_fine _ c.enum_told-1.given.1 (one c.before.before)),
     )
 
-returns-2 : tie.Need-returns-2 invariant-loop decreases-loop
-returns-2 c = passed_all _ c.before.loop.o _ (omega arith) c.before.loop.invariant.2 refl
+returns : tie.Need-returns invariant-loop-o decreases-loop-o
+returns c = passed_all _ c.before.loop-o.o _ (omega arith) c.before.loop-o.invariant.2 refl
 
 pub uses_spec : {M : Type 1} → statement M
 uses_spec =
     tie.close
     (tie.spec
-    invariant-loop
-    decreases-loop
-    loop-holds
-    mul_wide
-    add_wide
-    add-wide-2
-    shared-slice-read-wide
-    wide-requires
-    op-uses-requires
-    enum_told
-    enum-told-2
-    returns
-    mul-first
-    add-first
-    add-o
-    loop-less
-    loop-again
-    returns-2)
+    invariant-loop-o
+    decreases-loop-o
+    loop-o-init
+    overflow_mul-o
+    overflow_add-o
+    overflow_add-o-in-loop-o
+    bounds-file-o
+    wide-k-requires
+    op_uses-one-requires
+    enum_told-1
+    enum_told-in_default
+    returns-in_default
+    overflow_mul-first
+    overflow_add-first
+    overflow_add-o-in-loop-o-2
+    loop-o-smaller
+    loop-o-preserved
+    returns)

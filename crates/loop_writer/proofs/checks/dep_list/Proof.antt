@@ -12,55 +12,55 @@ use Rattle.refusals.proofs.Tables.{fine_passes, row_refused_as, row_passed}
 use Rattle.loop_writer.proofs.checks.dep_list.Statement.{statement}
 use Rattle.loop_writer.proofs.checks.dep_list.Tie as tie
 
-abbrev invariant-loop : tie.invariant-loop
-invariant-loop deps n m e₀ e = (e ≤ m) × (first_refusal (flat_map (dep_given_checks deps n) (up_from 0 e)) ≡ none)
+abbrev invariant-loop-e : tie.invariant-loop-e
+invariant-loop-e deps n m e₀ e = (e ≤ m) × (first_refusal (flat_map (dep_given_checks deps n) (up_from 0 e)) ≡ none)
 
-abbrev decreases-loop : tie.decreases-loop
-decreases-loop deps n m e₀ e = m - e
+abbrev decreases-loop-e : tie.decreases-loop-e
+decreases-loop-e deps n m e₀ e = m - e
 
-loop-holds : tie.Need-loop-init invariant-loop decreases-loop
-loop-holds c = (omega arith, row_start _)
+loop-e-init : tie.Need-loop-e-init invariant-loop-e decreases-loop-e
+loop-e-init c = (omega arith, row_start _)
 
-dep-requires : tie.Need-dep-requires invariant-loop decreases-loop
-dep-requires c κs = omega arith
+dep-one-requires : tie.Need-dep-one-requires invariant-loop-e decreases-loop-e
+dep-one-requires c κs = omega arith
 
-enum_told : tie.Need-enum-told invariant-loop decreases-loop
-enum_told c = c.match.keys1
+enum_told-1 : tie.Need-enum_told-1 invariant-loop-e decreases-loop-e
+enum_told-1 c = c.match.keys1
 
-enum-told-2 : tie.Need-enum-told-2 invariant-loop decreases-loop
-enum-told-2 c = c.match.keys2
+enum_told-in_default : tie.Need-enum_told-in_default invariant-loop-e decreases-loop-e
+enum_told-in_default c = c.match.keys2
 
-returns : tie.Need-returns invariant-loop decreases-loop
-returns c =
-    let l = c.before.before.before.before.loop in
-    row_refused_as _ l.e _ (omega arith) l.invariant.1 c.enum-told2.given.1 c.before.before.dep.ensures
+returns-in_default : tie.Need-returns-in_default invariant-loop-e decreases-loop-e
+returns-in_default c =
+    let l = c.before.before.before.before.loop-e in
+    row_refused_as _ l.e _ (omega arith) l.invariant.1 c.enum_told-in_default-1.given.1 c.before.before.dep-one.ensures
 
-add-e : tie.Need-overflow-add-e invariant-loop decreases-loop
-add-e c = omega arith
+overflow_add-e : tie.Need-overflow_add-e invariant-loop-e decreases-loop-e
+overflow_add-e c = omega arith
 
-loop-less : tie.Need-loop-smaller invariant-loop decreases-loop
-loop-less c = omega arith
+loop-e-smaller : tie.Need-loop-e-smaller invariant-loop-e decreases-loop-e
+loop-e-smaller c = omega arith
 
-loop-again : tie.Need-loop-preserved invariant-loop decreases-loop
-loop-again c =
-    let l = c.before.before.before.before.loop in
-    (omega arith, row_next _ l.e l.invariant.1 (fine_passes _ c.enum_told.given.1 c.before.before.dep.ensures))
+loop-e-preserved : tie.Need-loop-e-preserved invariant-loop-e decreases-loop-e
+loop-e-preserved c =
+    let l = c.before.before.before.before.loop-e in
+    (omega arith, row_next _ l.e l.invariant.1 (fine_passes _ c.enum_told-1.given.1 c.before.before.dep-one.ensures))
 
-returns-2 : tie.Need-returns-2 invariant-loop decreases-loop
-returns-2 c = row_passed _ c.before.loop.e _ (omega arith) c.before.loop.invariant.1
+returns : tie.Need-returns invariant-loop-e decreases-loop-e
+returns c = row_passed _ c.before.loop-e.e _ (omega arith) c.before.loop-e.invariant.1
 
 pub dep_list_spec : {M : Type 1} → statement M
 dep_list_spec =
     tie.close
     (tie.spec
-    invariant-loop
-    decreases-loop
-    loop-holds
-    dep-requires
-    enum_told
-    enum-told-2
-    returns
-    add-e
-    loop-less
-    loop-again
-    returns-2)
+    invariant-loop-e
+    decreases-loop-e
+    loop-e-init
+    dep-one-requires
+    enum_told-1
+    enum_told-in_default
+    returns-in_default
+    overflow_add-e
+    loop-e-smaller
+    loop-e-preserved
+    returns)

@@ -10,32 +10,32 @@ use Rattle.loop_writer.proofs.Ranges.{natural_fits, natural_is, below_is}
 use Rattle.loop_writer.proofs.checks.natural.Statement.{statement}
 use Rattle.loop_writer.proofs.checks.natural.Tie as tie
 
-mul-z : tie.Need-overflow-mul-z
-mul-z c = omega arith
+offset_bounds-list-i : tie.Need-offset_bounds-list-i
+offset_bounds-list-i c = omega arith
 
-shared-slice-copy-out-z : tie.Need-shared-slice-copy-out-z
-shared-slice-copy-out-z c = c.requires
+bounds-list-i : tie.Need-bounds-list-i
+bounds-list-i c = c.requires
 
 -- the number
-module _ (c : tie.After-z) where
+module _ (c : tie.After-z-1) where
   abbrev z : ℤ
   z = field_at c.before.args.list.now c.before.args.i
 
   fits : SFits w32 z
-  fits = record { sfits = c.z.given }
+  fits = record { sfits = c.z-1.given }
 
   -- out of its bits
   same : to_z w32 (of_z w32 z) ≡ z
   same = to_z-of_z w32 z fits
 
-cast-result : tie.Need-overflow-cast-result
-cast-result c = let a = c.before in rw (same a) (natural_fits (z a) (fits a) (rw (same a) at c.if1.false))
+overflow_cast-result : tie.Need-overflow_cast-result
+overflow_cast-result c = let a = c.before in rw (same a) (natural_fits (z a) (fits a) (rw (same a) at c.if-z-lt0.false))
 
-returns : tie.Need-returns
-returns c = let a = c.before in below_is (z a) (rw (same a) at c.if1.true)
+returns-then-z-lt0 : tie.Need-returns-then-z-lt0
+returns-then-z-lt0 c = let a = c.before in below_is (z a) (rw (same a) at c.if-z-lt0.true)
 
-returns-2 : tie.Need-returns-2
-returns-2 c = let a = c.before in ap nat_abs (same a) ∙ natural_is (z a) (rw (same a) at c.if1.false)
+returns-else-z-lt0 : tie.Need-returns-else-z-lt0
+returns-else-z-lt0 c = let a = c.before in ap nat_abs (same a) ∙ natural_is (z a) (rw (same a) at c.if-z-lt0.false)
 
 pub natural_spec : {M : Type 1} → statement M
-natural_spec = tie.close (tie.spec mul-z shared-slice-copy-out-z cast-result returns returns-2)
+natural_spec = tie.close (tie.spec offset_bounds-list-i bounds-list-i overflow_cast-result returns-then-z-lt0 returns-else-z-lt0)

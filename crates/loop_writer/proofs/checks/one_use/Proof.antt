@@ -9,14 +9,14 @@ use Rattle.loop_writer.proofs.Ranges.{between, above_fits, above_is}
 use Rattle.loop_writer.proofs.checks.one_use.Statement.{statement}
 use Rattle.loop_writer.proofs.checks.one_use.Tie as tie
 
-mul_at : tie.Need-overflow-mul-at
-mul_at c = omega arith
+overflow_mul-at : tie.Need-overflow_mul-at
+overflow_mul-at c = omega arith
 
-cast-outside : tie.Need-overflow-cast-outside
-cast-outside c = omega arith
+overflow_cast-below : tie.Need-overflow_cast-below
+overflow_cast-below c = omega arith
 
-add-outside : tie.Need-overflow-add-outside
-add-outside c = above_fits c.args.below (omega arith)
+overflow_add-below : tie.Need-overflow_add-below
+overflow_add-below c = above_fits c.args.below (omega arith)
 
 outside-requires : tie.Need-outside-requires
 outside-requires c κs = omega arith
@@ -27,28 +27,28 @@ slot_said c =
     let a = c.before.args in
     between a.below 24 (field_at a.uses.now (use_width * a.u)) ∙ sym (rw (above_is a.below (omega arith)) at c.outside.ensures)
 
-duration_said : (c : tie.After-outside2) → let a = c.before.before.before.args in not_between 0 16 (field_at a.uses.now (use_width * a.u + 1)) ≡ c.outside2.result
-duration_said c = let a = c.before.before.before.args in between 0 16 (field_at a.uses.now (use_width * a.u + 1)) ∙ sym c.outside2.ensures
+duration_said : (c : tie.After-outside-2) → let a = c.before.before.before.args in not_between 0 16 (field_at a.uses.now (use_width * a.u + 1)) ≡ c.outside-2.result
+duration_said c = let a = c.before.before.before.args in between 0 16 (field_at a.uses.now (use_width * a.u + 1)) ∙ sym c.outside-2.ensures
 
-returns : tie.Need-returns
+returns-then-outside : tie.Need-returns-then-outside
 unfolding use_checks first_refusal
-returns c = rw (slot_said c.before ∙ c.if1.true)
+returns-then-outside c = rw (slot_said c.before ∙ c.if-outside.true)
 
-add-outside-2 : tie.Need-overflow-add-outside-2
-add-outside-2 c = omega arith
+overflow_add-at : tie.Need-overflow_add-at
+overflow_add-at c = omega arith
 
 outside-requires-2 : tie.Need-outside-requires-2
 outside-requires-2 c κs = omega arith
 
-returns-2 : tie.Need-returns-2
+returns-then-outside-2 : tie.Need-returns-then-outside-2
 unfolding use_checks first_refusal
-returns-2 c = let d = c.before.before in rw (slot_said d.before ∙ d.if1.false, duration_said c.before ∙ c.if2.true)
+returns-then-outside-2 c = let d = c.before.before in rw (slot_said d.before ∙ d.if-outside.false, duration_said c.before ∙ c.if-outside-2.true)
 
-returns-3 : tie.Need-returns-3
+returns : tie.Need-returns
 unfolding use_checks first_refusal
-returns-3 c = let d = c.before.before in rw (slot_said d.before ∙ d.if1.false, duration_said c.before ∙ c.if2.false)
+returns c = let d = c.before.before in rw (slot_said d.before ∙ d.if-outside.false, duration_said c.before ∙ c.if-outside-2.false)
 
 pub one_use_spec : {M : Type 1} → statement M
 one_use_spec =
     tie.close
-    (tie.spec mul_at cast-outside add-outside outside-requires returns add-outside-2 outside-requires-2 returns-2 returns-3)
+    (tie.spec overflow_mul-at overflow_cast-below overflow_add-below outside-requires returns-then-outside overflow_add-at outside-requires-2 returns-then-outside-2 returns)

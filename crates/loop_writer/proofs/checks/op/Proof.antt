@@ -9,8 +9,8 @@ use Rattle.loop_writer.proofs.Ranges.{up_to}
 use Rattle.loop_writer.proofs.checks.op.Statement.{statement}
 use Rattle.loop_writer.proofs.checks.op.Tie as tie
 
-mul_at : tie.Need-overflow-mul-at
-mul_at c = omega arith
+overflow_mul-at : tie.Need-overflow_mul-at
+overflow_mul-at c = omega arith
 
 outside-requires : tie.Need-outside-requires
 outside-requires c κs = omega arith
@@ -19,26 +19,26 @@ outside-requires c κs = omega arith
 latency_said : (c : tie.After-outside) → let a = c.before.args in not_up_to 64 (field_at a.ops.now (2 * a.o)) ≡ c.outside.result
 latency_said c = let a = c.before.args in up_to 64 (field_at a.ops.now (2 * a.o)) ∙ sym c.outside.ensures
 
-uses_said : (c : tie.After-outside2) → let a = c.before.before.before.args in not_up_to 4 (field_at a.ops.now (2 * a.o + 1)) ≡ c.outside2.result
-uses_said c = let a = c.before.before.before.args in up_to 4 (field_at a.ops.now (2 * a.o + 1)) ∙ sym c.outside2.ensures
+uses_said : (c : tie.After-outside-2) → let a = c.before.before.before.args in not_up_to 4 (field_at a.ops.now (2 * a.o + 1)) ≡ c.outside-2.result
+uses_said c = let a = c.before.before.before.args in up_to 4 (field_at a.ops.now (2 * a.o + 1)) ∙ sym c.outside-2.ensures
 
-returns : tie.Need-returns
+returns-then-outside : tie.Need-returns-then-outside
 unfolding op_checks first_refusal
-returns c = rw (latency_said c.before ∙ c.if1.true)
+returns-then-outside c = rw (latency_said c.before ∙ c.if-outside.true)
 
-add-outside : tie.Need-overflow-add-outside
-add-outside c = omega arith
+overflow_add-at : tie.Need-overflow_add-at
+overflow_add-at c = omega arith
 
 outside-requires-2 : tie.Need-outside-requires-2
 outside-requires-2 c κs = c.before.before.requires
 
-returns-2 : tie.Need-returns-2
+returns-then-outside-2 : tie.Need-returns-then-outside-2
 unfolding op_checks first_refusal
-returns-2 c = let d = c.before.before in rw (latency_said d.before ∙ d.if1.false, uses_said c.before ∙ c.if2.true)
+returns-then-outside-2 c = let d = c.before.before in rw (latency_said d.before ∙ d.if-outside.false, uses_said c.before ∙ c.if-outside-2.true)
 
-returns-3 : tie.Need-returns-3
+returns : tie.Need-returns
 unfolding op_checks first_refusal
-returns-3 c = let d = c.before.before in rw (latency_said d.before ∙ d.if1.false, uses_said c.before ∙ c.if2.false)
+returns c = let d = c.before.before in rw (latency_said d.before ∙ d.if-outside.false, uses_said c.before ∙ c.if-outside-2.false)
 
 pub op_spec : {M : Type 1} → statement M
-op_spec = tie.close (tie.spec mul_at outside-requires returns add-outside outside-requires-2 returns-2 returns-3)
+op_spec = tie.close (tie.spec overflow_mul-at outside-requires returns-then-outside overflow_add-at outside-requires-2 returns-then-outside-2 returns)

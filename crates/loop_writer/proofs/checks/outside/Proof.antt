@@ -9,14 +9,14 @@ use Rattle.model.proofs.Machine.{lt_plain}
 use Rattle.loop_writer.proofs.checks.outside.Statement.{statement}
 use Rattle.loop_writer.proofs.checks.outside.Tie as tie
 
-mul-z : tie.Need-overflow-mul-z
-mul-z c = omega arith
+offset_bounds-list-i : tie.Need-offset_bounds-list-i
+offset_bounds-list-i c = omega arith
 
-shared-slice-copy-out-z : tie.Need-shared-slice-copy-out-z
-shared-slice-copy-out-z c = c.requires
+bounds-list-i : tie.Need-bounds-list-i
+bounds-list-i c = c.requires
 
 -- the number
-module _ (c : tie.After-z) where
+module _ (c : tie.After-z-1) where
   abbrev s : tie.Start
   s = c.before
 
@@ -24,15 +24,15 @@ module _ (c : tie.After-z) where
   z = field_at s.args.list.now s.args.i
 
   fits : SFits w32 z
-  fits = record { sfits = c.z.given }
+  fits = record { sfits = c.z-1.given }
+
+returns-then-z-low : tie.Need-returns-then-z-low
+returns-then-z-low c = let a = c.before in rw (lt_plain w32 (z a) (s a).args.low (fits a) (s a).ranges.low c.if-z-low.true)
 
 returns : tie.Need-returns
-returns c = let a = c.before in rw (lt_plain w32 (z a) (s a).args.low (fits a) (s a).ranges.low c.if1.true)
-
-returns-2 : tie.Need-returns-2
-returns-2 c =
+returns c =
     let a = c.before in
-    rw (lt_plain w32 (z a) (s a).args.low (fits a) (s a).ranges.low c.if1.false) (sym (lt_plain w32 (s a).args.high (z a) (s a).ranges.high (fits a) refl))
+    rw (lt_plain w32 (z a) (s a).args.low (fits a) (s a).ranges.low c.if-z-low.false) (sym (lt_plain w32 (s a).args.high (z a) (s a).ranges.high (fits a) refl))
 
 pub outside_spec : {M : Type 1} → statement M
-outside_spec = tie.close (tie.spec mul-z shared-slice-copy-out-z returns returns-2)
+outside_spec = tie.close (tie.spec offset_bounds-list-i bounds-list-i returns-then-z-low returns)

@@ -5,27 +5,27 @@ use Rattle.model.specs.Refusals.{first_refusal}
 use Rattle.loop_writer.proofs.checks.size.Statement.{statement}
 use Rattle.loop_writer.proofs.checks.size.Tie as tie
 
-rem-if1 : tie.Need-nonzero-rem-if1
-rem-if1 c = omega arith
+nonzero_rem-numbers : tie.Need-nonzero_rem-numbers
+nonzero_rem-numbers c = omega arith
+
+returns-then-numbers-width-ne0 : tie.Need-returns-then-numbers-width-ne0
+unfolding first_refusal
+returns-then-numbers-width-ne0 c = rw (ne_eqb _ _ c.if-numbers-width-ne0.true)
+
+nonzero_div-records : tie.Need-nonzero_div-records
+nonzero_div-records c = omega arith
+
+returns-then-records-least : tie.Need-returns-then-records-least
+unfolding first_refusal
+returns-then-records-least c = rw (eq-eqb _ _ c.before.if-numbers-width-ne0.false, lt-ltb _ _ c.if-records-least.true)
+
+returns-then-most-records : tie.Need-returns-then-most-records
+unfolding first_refusal
+returns-then-most-records c = rw (eq-eqb _ _ c.before.before.if-numbers-width-ne0.false, le-ltb _ _ c.before.if-records-least.false, lt-ltb _ _ c.if-most-records.true)
 
 returns : tie.Need-returns
 unfolding first_refusal
-returns c = rw (ne_eqb _ _ c.if1.true)
-
-div-records : tie.Need-nonzero-div-records
-div-records c = omega arith
-
-returns-2 : tie.Need-returns-2
-unfolding first_refusal
-returns-2 c = rw (eq-eqb _ _ c.before.if1.false, lt-ltb _ _ c.if2.true)
-
-returns-3 : tie.Need-returns-3
-unfolding first_refusal
-returns-3 c = rw (eq-eqb _ _ c.before.before.if1.false, le-ltb _ _ c.before.if2.false, lt-ltb _ _ c.if3.true)
-
-returns-4 : tie.Need-returns-4
-unfolding first_refusal
-returns-4 c = rw (eq-eqb _ _ c.before.before.if1.false, le-ltb _ _ c.before.if2.false, le-ltb _ _ c.if3.false)
+returns c = rw (eq-eqb _ _ c.before.before.if-numbers-width-ne0.false, le-ltb _ _ c.before.if-records-least.false, le-ltb _ _ c.if-most-records.false)
 
 pub size_spec : {M : Type 1} → statement M
-size_spec = tie.close (tie.spec rem-if1 returns div-records returns-2 returns-3 returns-4)
+size_spec = tie.close (tie.spec nonzero_rem-numbers returns-then-numbers-width-ne0 nonzero_div-records returns-then-records-least returns-then-most-records returns)

@@ -14,17 +14,17 @@ use Rattle.loop_writer.proofs.Bytes.{plain}
 use Rattle.loop_writer.proofs.put.body.Statement.{statement}
 use Rattle.loop_writer.proofs.put.body.Tie as tie
 
-abbrev invariant-loop : tie.invariant-loop
-invariant-loop buffer₀ at fields i₀ buffer i = (i ≤ length fields) × (buffer ≡ paste buffer₀ at (map byte_of fields) i)
+abbrev invariant-loop-i : tie.invariant-loop-i
+invariant-loop-i buffer₀ at fields i₀ buffer i = (i ≤ length fields) × (buffer ≡ paste buffer₀ at (map byte_of fields) i)
 
-abbrev decreases-loop : tie.decreases-loop
-decreases-loop buffer₀ at fields i₀ buffer i = length fields - i
+abbrev decreases-loop-i : tie.decreases-loop-i
+decreases-loop-i buffer₀ at fields i₀ buffer i = length fields - i
 
-loop-holds : tie.Need-loop-init invariant-loop decreases-loop
-loop-holds c = (omega arith, paste-zero c.before.args.buffer.now c.before.args.at (map byte_of c.before.args.fields.now))
+loop-i-init : tie.Need-loop-i-init invariant-loop-i decreases-loop-i
+loop-i-init c = (omega arith, paste-zero c.before.args.buffer.now c.before.args.at (map byte_of c.before.args.fields.now))
 
-module _ (c : tie.At-loop invariant-loop decreases-loop) where
-  abbrev a : tie.Start invariant-loop decreases-loop
+module _ (c : tie.At-loop-i invariant-loop-i decreases-loop-i) where
+  abbrev a : tie.Start invariant-loop-i decreases-loop-i
   a = c.before.before
 
   abbrev bytes : List ℕ
@@ -35,62 +35,62 @@ module _ (c : tie.At-loop invariant-loop decreases-loop) where
   as_many = length-map a.args.fields.now byte_of
 
   -- the buffer keeps its length
-  as_long : length c.loop.buffer ≡ length a.args.buffer.now
-  as_long = ap length c.loop.invariant.1 ∙ length-paste a.args.buffer.now a.args.at bytes c.loop.i (omega arith) (omega (arith, as_many))
+  as_long : length c.loop-i.buffer ≡ length a.args.buffer.now
+  as_long = ap length c.loop-i.invariant.1 ∙ length-paste a.args.buffer.now a.args.at bytes c.loop-i.i (omega arith) (omega (arith, as_many))
 
   -- number i, as the machine reads it
-  read : to_z w32 (of_z w32 (field_at a.args.fields.now c.loop.i)) ≡ field_at a.args.fields.now c.loop.i
-  read = plain (field_at a.args.fields.now c.loop.i) (a.pre.1 c.loop.i)
+  read : to_z w32 (of_z w32 (field_at a.args.fields.now c.loop-i.i)) ≡ field_at a.args.fields.now c.loop-i.i
+  read = plain (field_at a.args.fields.now c.loop-i.i) (a.pre.1 c.loop-i.i)
 
-mul-byte-of : tie.Need-overflow-mul-byte-of invariant-loop decreases-loop
-mul-byte-of c = omega arith
+offset_bounds-fields-i : tie.Need-offset_bounds-fields-i invariant-loop-i decreases-loop-i
+offset_bounds-fields-i c = omega arith
 
-shared-slice-copy-out-byte-of : tie.Need-shared-slice-copy-out-byte-of invariant-loop decreases-loop
-shared-slice-copy-out-byte-of c = omega arith
+bounds-fields-i : tie.Need-bounds-fields-i invariant-loop-i decreases-loop-i
+bounds-fields-i c = omega arith
 
-byte-of-requires : tie.Need-byte-of-requires invariant-loop decreases-loop
-byte-of-requires c κs = let l = c.before.before in rw (read l) ((a l).requires.1 l.loop.i)
+byte_of-requires : tie.Need-byte_of-requires invariant-loop-i decreases-loop-i
+byte_of-requires c κs = let l = c.before.before in rw (read l) ((a l).requires.1 l.loop-i.i)
 
-add-buffer : tie.Need-overflow-add-buffer invariant-loop decreases-loop
-add-buffer c = omega arith
+overflow_add-buffer : tie.Need-overflow_add-buffer invariant-loop-i decreases-loop-i
+overflow_add-buffer c = omega arith
 
-slice-write-buffer : tie.Need-slice-write-buffer invariant-loop decreases-loop
-slice-write-buffer c = omega (arith, as_long c.before.before.before)
+bounds-buffer-at : tie.Need-bounds-buffer-at invariant-loop-i decreases-loop-i
+bounds-buffer-at c = omega (arith, as_long c.before.before.before)
 
-add-i : tie.Need-overflow-add-i invariant-loop decreases-loop
-add-i c = omega arith
+overflow_add-i : tie.Need-overflow_add-i invariant-loop-i decreases-loop-i
+overflow_add-i c = omega arith
 
-loop-less : tie.Need-loop-smaller invariant-loop decreases-loop
-loop-less c = omega arith
+loop-i-smaller : tie.Need-loop-i-smaller invariant-loop-i decreases-loop-i
+loop-i-smaller c = omega arith
 
-loop-again : tie.Need-loop-preserved invariant-loop decreases-loop
-loop-again c =
+loop-i-preserved : tie.Need-loop-i-preserved invariant-loop-i decreases-loop-i
+loop-i-preserved c =
     let l = c.before.before.before in
-    let e : c.byte_of.result ≡ get_or (bytes l) l.loop.i 0 = c.byte_of.ensures ∙ ap byte_of (read l) ∙ sym (get_or-map byte_of (a l).args.fields.now l.loop.i (pos 0)) in
-    (omega arith, rw (l.loop.invariant.1, e, add-one) (paste-suc (a l).args.buffer.now (a l).args.at (bytes l) l.loop.i 0 (omega arith) (omega (arith, as_many l))))
+    let e : c.byte_of.result ≡ get_or (bytes l) l.loop-i.i 0 = c.byte_of.ensures ∙ ap byte_of (read l) ∙ sym (get_or-map byte_of (a l).args.fields.now l.loop-i.i (pos 0)) in
+    (omega arith, rw (l.loop-i.invariant.1, e, add-one) (paste-suc (a l).args.buffer.now (a l).args.at (bytes l) l.loop-i.i 0 (omega arith) (omega (arith, as_many l))))
 
-same_length : tie.Need-same-length invariant-loop decreases-loop
-same_length c = as_long c.before
+shape_of-buffer : tie.Need-shape_of-buffer invariant-loop-i decreases-loop-i
+shape_of-buffer c = as_long c.before
 
-returns : tie.Need-returns invariant-loop decreases-loop
+returns : tie.Need-returns invariant-loop-i decreases-loop-i
 returns c =
-    let e : c.before.loop.i ≡ length (bytes c.before) = omega (arith, as_many c.before) in
-    c.before.loop.invariant.1 ∙ rw (e, take-length)
+    let e : c.before.loop-i.i ≡ length (bytes c.before) = omega (arith, as_many c.before) in
+    c.before.loop-i.invariant.1 ∙ rw (e, take-length)
 
 pub body_spec : {M : Type 1} → statement M
 body_spec =
     tie.close
     (tie.spec
-    invariant-loop
-    decreases-loop
-    loop-holds
-    mul-byte-of
-    shared-slice-copy-out-byte-of
-    byte-of-requires
-    add-buffer
-    slice-write-buffer
-    add-i
-    loop-less
-    loop-again
-    same_length
+    invariant-loop-i
+    decreases-loop-i
+    loop-i-init
+    offset_bounds-fields-i
+    bounds-fields-i
+    byte_of-requires
+    overflow_add-buffer
+    bounds-buffer-at
+    overflow_add-i
+    loop-i-smaller
+    loop-i-preserved
+    shape_of-buffer
     returns)

@@ -24,65 +24,65 @@ module _ (c : tie.After-word) where
   abbrev a : tie.Start
   a = c.before.before.before.before.before.before.before
 
-  six : Stored a.args.buffer.now a.args.at (four_of a.args.tag.now ++ word a.args.start) c.word.new.0
+  six : Stored a.args.buffer-1.now a.args.at (four_of a.args.tag.now ++ word a.args.start) c.word.new.0
   six =
-      next_stored (a.args.at + 4) (word a.args.start) (four a.args.buffer.now a.args.tag.now a.args.at (omega arith)) (omega arith) (omega arith) c.word.ensures
+      next_stored (a.args.at + 4) (word a.args.start) (four a.args.buffer-1.now a.args.tag.now a.args.at (omega arith)) (omega arith) (omega arith) c.word.ensures
 
 -- and the second
-module _ (c : tie.After-word2) where
+module _ (c : tie.After-word-2) where
   abbrev b : tie.Start
   b = a c.before.before.before.before
 
-  eight : Stored b.args.buffer.now b.args.at (entry_bytes (four_of b.args.tag.now) b.args.start b.args.long) c.word2.new.0
-  eight = next_stored (b.args.at + 6) (word b.args.long) (six c.before.before.before.before) (omega arith) (omega arith) c.word2.ensures
+  eight : Stored b.args.buffer-1.now b.args.at (entry_bytes (four_of b.args.tag.now) b.args.start b.args.long) c.word-2.new.0
+  eight = next_stored (b.args.at + 6) (word b.args.long) (six c.before.before.before.before) (omega arith) (omega arith) c.word-2.ensures
 
-element-copy-out-buffer : tie.Need-element-copy-out-buffer
-element-copy-out-buffer c = omega arith
+bounds-tag-0 : tie.Need-bounds-tag-0
+bounds-tag-0 c = omega arith
 
-slice-write-buffer : tie.Need-slice-write-buffer
-slice-write-buffer c = omega arith
+bounds-buffer-at : tie.Need-bounds-buffer-at
+bounds-buffer-at c = omega arith
 
-element-copy-out-buffer-2 : tie.Need-element-copy-out-buffer-2
-element-copy-out-buffer-2 c = omega arith
+bounds-tag-1 : tie.Need-bounds-tag-1
+bounds-tag-1 c = omega arith
 
-add-buffer : tie.Need-overflow-add-buffer
-add-buffer c = omega arith
+overflow_add-buffer : tie.Need-overflow_add-buffer
+overflow_add-buffer c = omega arith
 
-slice-write-buffer-2 : tie.Need-slice-write-buffer-2
-slice-write-buffer-2 c = simp length-set (omega arith)
+bounds-buffer-at-2 : tie.Need-bounds-buffer-at-2
+bounds-buffer-at-2 c = simp length-set (omega arith)
 
-element-copy-out-buffer-3 : tie.Need-element-copy-out-buffer-3
-element-copy-out-buffer-3 c = omega arith
+bounds-tag-2 : tie.Need-bounds-tag-2
+bounds-tag-2 c = omega arith
 
-add-buffer-2 : tie.Need-overflow-add-buffer-2
-add-buffer-2 c = omega arith
+overflow_add-buffer-2 : tie.Need-overflow_add-buffer-2
+overflow_add-buffer-2 c = omega arith
 
-slice-write-buffer-3 : tie.Need-slice-write-buffer-3
-slice-write-buffer-3 c = simp length-set (omega arith)
+bounds-buffer-at-3 : tie.Need-bounds-buffer-at-3
+bounds-buffer-at-3 c = simp length-set (omega arith)
 
-element-copy-out-buffer-4 : tie.Need-element-copy-out-buffer-4
-element-copy-out-buffer-4 c = omega arith
+bounds-tag-3 : tie.Need-bounds-tag-3
+bounds-tag-3 c = omega arith
 
-add-buffer-3 : tie.Need-overflow-add-buffer-3
-add-buffer-3 c = omega arith
+overflow_add-buffer-3 : tie.Need-overflow_add-buffer-3
+overflow_add-buffer-3 c = omega arith
 
-slice-write-buffer-4 : tie.Need-slice-write-buffer-4
-slice-write-buffer-4 c = simp length-set (omega arith)
+bounds-buffer-at-4 : tie.Need-bounds-buffer-at-4
+bounds-buffer-at-4 c = simp length-set (omega arith)
 
-add-word : tie.Need-overflow-add-word
-add-word c = omega arith
+overflow_add-at : tie.Need-overflow_add-at
+overflow_add-at c = omega arith
 
 word-requires : tie.Need-word-requires
 word-requires c κs = simp length-set (omega arith)
 
-add-word-2 : tie.Need-overflow-add-word-2
-add-word-2 c = omega arith
+overflow_add-at-2 : tie.Need-overflow_add-at-2
+overflow_add-at-2 c = omega arith
 
 word-requires-2 : tie.Need-word-requires-2
 word-requires-2 c κs = omega (arith, (six c.before.before.before).long)
 
-same_length : tie.Need-same-length
-same_length c = (eight c.before.before).long
+shape_of-buffer : tie.Need-shape_of-buffer
+shape_of-buffer c = (eight c.before.before).long
 
 returns : tie.Need-returns
 returns c = (eight c.before.before).is
@@ -91,20 +91,20 @@ pub entry_spec : {M : Type 1} → statement M
 entry_spec =
     tie.close
     (tie.spec
-    element-copy-out-buffer
-    slice-write-buffer
-    element-copy-out-buffer-2
-    add-buffer
-    slice-write-buffer-2
-    element-copy-out-buffer-3
-    add-buffer-2
-    slice-write-buffer-3
-    element-copy-out-buffer-4
-    add-buffer-3
-    slice-write-buffer-4
-    add-word
+    bounds-tag-0
+    bounds-buffer-at
+    bounds-tag-1
+    overflow_add-buffer
+    bounds-buffer-at-2
+    bounds-tag-2
+    overflow_add-buffer-2
+    bounds-buffer-at-3
+    bounds-tag-3
+    overflow_add-buffer-3
+    bounds-buffer-at-4
+    overflow_add-at
     word-requires
-    add-word-2
+    overflow_add-at-2
     word-requires-2
-    same_length
+    shape_of-buffer
     returns)

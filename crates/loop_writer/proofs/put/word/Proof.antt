@@ -7,23 +7,23 @@ use Rattle.model.specs.Writer.{word}
 use Rattle.loop_writer.proofs.put.word.Statement.{statement}
 use Rattle.loop_writer.proofs.put.word.Tie as tie
 
-cast-buffer : tie.Need-overflow-cast-buffer
-cast-buffer c = omega arith
+overflow_cast-buffer : tie.Need-overflow_cast-buffer
+overflow_cast-buffer c = omega arith
 
-slice-write-buffer : tie.Need-slice-write-buffer
-slice-write-buffer c = omega arith
+bounds-buffer-at : tie.Need-bounds-buffer-at
+bounds-buffer-at c = omega arith
 
-cast-buffer-2 : tie.Need-overflow-cast-buffer-2
-cast-buffer-2 c = omega arith
+overflow_cast-buffer-2 : tie.Need-overflow_cast-buffer-2
+overflow_cast-buffer-2 c = omega arith
 
-add-buffer : tie.Need-overflow-add-buffer
-add-buffer c = omega arith
+overflow_add-buffer : tie.Need-overflow_add-buffer
+overflow_add-buffer c = omega arith
 
-slice-write-buffer-2 : tie.Need-slice-write-buffer-2
-slice-write-buffer-2 c = simp length-set (omega arith)
+bounds-buffer-at-2 : tie.Need-bounds-buffer-at-2
+bounds-buffer-at-2 c = simp length-set (omega arith)
 
-same_length : tie.Need-same-length
-same_length c = simp length-set
+shape_of-buffer : tie.Need-shape_of-buffer
+shape_of-buffer c = simp length-set
 
 returns : tie.Need-returns
 returns c = rw add-one (sets-eq (word c.args.n) c.args.buffer.now c.args.at (omega arith))
@@ -32,10 +32,10 @@ pub word_spec : {M : Type 1} → statement M
 word_spec =
     tie.close
     (tie.spec
-    cast-buffer
-    slice-write-buffer
-    cast-buffer-2
-    add-buffer
-    slice-write-buffer-2
-    same_length
+    overflow_cast-buffer
+    bounds-buffer-at
+    overflow_cast-buffer-2
+    overflow_add-buffer
+    bounds-buffer-at-2
+    shape_of-buffer
     returns)

@@ -14,42 +14,42 @@ use Rattle.model.proofs.Machine.{lt_plain}
 use Rattle.lower_bounds.proofs.recurrence.raise.Statement.{statement}
 use Rattle.lower_bounds.proofs.recurrence.raise.Tie as tie
 
-mul-old : tie.Need-overflow-mul-old
-mul-old c = omega arith
+offset_bounds-x-at : tie.Need-offset_bounds-x-at
+offset_bounds-x-at c = omega arith
 
-element-copy-out-old : tie.Need-element-copy-out-old
-element-copy-out-old c = c.requires
+bounds-x-at : tie.Need-bounds-x-at
+bounds-x-at c = c.requires
 
-mul-v : tie.Need-overflow-mul-v
-mul-v c = omega arith
+offset_bounds-x-at-then-rose : tie.Need-offset_bounds-x-at-then-rose
+offset_bounds-x-at-then-rose c = omega arith
 
-element-set-from-v : tie.Need-element-set-from-v
-element-set-from-v c = c.before.before.requires
+bounds-x-at-then-rose : tie.Need-bounds-x-at-then-rose
+bounds-x-at-then-rose c = c.before.before.requires
 
 -- the element that may be raised
 abbrev old : tie.Start → ℤ
 old s = get_or s.args.x.now s.args.at (pos 0)
 
 -- what the test says
-rose : (c : tie.After-old) {t : Bool} → lt_z (to_z w32 (of_z w32 (old c.before))) (to_z w32 (of_z w32 c.before.args.v)) ≡ t → lt_z (old c.before) c.before.args.v ≡ t
-rose c = lt_plain w32 (old c.before) _ (record { sfits = c.old.given }) c.before.ranges.v
+rose : (c : tie.After-old-1) {t : Bool} → lt_z (to_z w32 (of_z w32 (old c.before))) (to_z w32 (of_z w32 c.before.args.v)) ≡ t → lt_z (old c.before) c.before.args.v ≡ t
+rose c = lt_plain w32 (old c.before) _ (record { sfits = c.old-1.given }) c.before.ranges.v
 
-returns : tie.Need-returns
-returns c =
+returns-then-rose : tie.Need-returns-then-rose
+returns-then-rose c =
     let s = c.before.before in
     record {
-      after = ap (set s.args.x.now s.args.at) (to_z-of_z w32 s.args.v s.ranges.v ∙ sym (max_right (old s) _ (rose c.before c.if1.true)));
+      after = ap (set s.args.x.now s.args.at) (to_z-of_z w32 s.args.v s.ranges.v ∙ sym (max_right (old s) _ (rose c.before c.if-rose.true)));
       test = sym (rose c.before refl);
     }
 
-returns-2 : tie.Need-returns-2
-returns-2 c =
+returns-else-rose : tie.Need-returns-else-rose
+returns-else-rose c =
     let s = c.before.before in
     record {
-      after = sym (ap (set s.args.x.now s.args.at) (max_left (old s) _ (rose c.before c.if1.false)) ∙ set-get_or s.args.x.now s.args.at (pos 0));
+      after = sym (ap (set s.args.x.now s.args.at) (max_left (old s) _ (rose c.before c.if-rose.false)) ∙ set-get_or s.args.x.now s.args.at (pos 0));
       test = sym (rose c.before refl);
     }
 
 pub raise_spec : {M : Type 1} → statement M
 raise_spec =
-    tie.close (tie.spec mul-old element-copy-out-old mul-v element-set-from-v returns returns-2)
+    tie.close (tie.spec offset_bounds-x-at bounds-x-at offset_bounds-x-at-then-rose bounds-x-at-then-rose returns-then-rose returns-else-rose)

@@ -9,66 +9,66 @@ use Rattle.lower_bounds.proofs.Bisection.{Between, top_no, top_yes, half_yes, ha
 use Rattle.lower_bounds.proofs.recurrence.recurrence.Statement.{statement}
 use Rattle.lower_bounds.proofs.recurrence.recurrence.Tie as tie
 
-abbrev invariant-loop : tie.invariant-loop
-invariant-loop file lo₀ hi₀ lo hi = Between (loop_of file) lo hi
+abbrev invariant-loop-lo : tie.invariant-loop-lo
+invariant-loop-lo file lo₀ hi₀ lo hi = Between (loop_of file) lo hi
 
-abbrev decreases-loop : tie.decreases-loop
-decreases-loop file lo₀ hi₀ lo hi = hi - lo
+abbrev decreases-loop-lo : tie.decreases-loop-lo
+decreases-loop-lo file lo₀ hi₀ lo hi = hi - lo
 
-loop_ok : (c : tie.After-feasible invariant-loop decreases-loop) → LoopOk (loop_of c.before.before.args.file.now)
+loop_ok : (c : tie.After-feasible invariant-loop-lo decreases-loop-lo) → LoopOk (loop_of c.before.before.args.file.now)
 loop_ok c = accepted_ok c.before.before.args.file.now c.before.before.requires
 
-feasible-requires : tie.Need-feasible-requires invariant-loop decreases-loop
+feasible-requires : tie.Need-feasible-requires invariant-loop-lo decreases-loop-lo
 feasible-requires c κs = (c.before.requires, omega arith)
 
-returns : tie.Need-returns invariant-loop decreases-loop
-returns c = top_no _ (loop_ok c.before) _ (not-true _ c.if1.true) c.before.feasible.ensures
+returns-then-not-feasible : tie.Need-returns-then-not-feasible invariant-loop-lo decreases-loop-lo
+returns-then-not-feasible c = top_no _ (loop_ok c.before) _ (not-true _ c.if-not-feasible.true) c.before.feasible.ensures
 
-loop-holds : tie.Need-loop-init invariant-loop decreases-loop
-loop-holds c = top_yes _ (loop_ok c.before) _ (not-false _ c.if1.false) c.before.feasible.ensures
+loop-lo-init : tie.Need-loop-lo-init invariant-loop-lo decreases-loop-lo
+loop-lo-init c = top_yes _ (loop_ok c.before) _ (not-false _ c.if-not-feasible.false) c.before.feasible.ensures
 
-add-mid : tie.Need-overflow-add-mid invariant-loop decreases-loop
-add-mid c = omega arith
+overflow_add-mid : tie.Need-overflow_add-mid invariant-loop-lo decreases-loop-lo
+overflow_add-mid c = omega arith
 
-feasible-requires-2 : tie.Need-feasible-requires-2 invariant-loop decreases-loop
-feasible-requires-2 c κs = (c.before.before.before.before.before.requires, omega arith)
+feasible-requires-in-loop-lo : tie.Need-feasible-requires-in-loop-lo invariant-loop-lo decreases-loop-lo
+feasible-requires-in-loop-lo c κs = (c.before.before.before.before.before.requires, omega arith)
 
-loop-less : tie.Need-loop-smaller invariant-loop decreases-loop
-loop-less c = omega arith
+loop-lo-smaller-then-feasible : tie.Need-loop-lo-smaller-then-feasible invariant-loop-lo decreases-loop-lo
+loop-lo-smaller-then-feasible c = omega arith
 
-loop-again : tie.Need-loop-preserved invariant-loop decreases-loop
-loop-again c =
+loop-lo-preserved-then-feasible : tie.Need-loop-lo-preserved-then-feasible invariant-loop-lo decreases-loop-lo
+loop-lo-preserved-then-feasible c =
     let a = c.before.before.before in
-    half_yes _ (loop_ok a.before.before) _ _ _ _ c.if2.true (omega arith) (omega arith) a.loop.invariant c.before.feasible2.ensures
+    half_yes _ (loop_ok a.before.before) _ _ _ _ c.if-feasible.true (omega arith) (omega arith) a.loop-lo.invariant c.before.feasible-in-loop-lo.ensures
 
-add-lo : tie.Need-overflow-add-lo invariant-loop decreases-loop
-add-lo c = omega arith
+overflow_add-lo : tie.Need-overflow_add-lo invariant-loop-lo decreases-loop-lo
+overflow_add-lo c = omega arith
 
-loop-less-2 : tie.Need-loop-smaller-2 invariant-loop decreases-loop
-loop-less-2 c = omega arith
+loop-lo-smaller : tie.Need-loop-lo-smaller invariant-loop-lo decreases-loop-lo
+loop-lo-smaller c = omega arith
 
-loop-again-2 : tie.Need-loop-preserved-2 invariant-loop decreases-loop
-loop-again-2 c =
+loop-lo-preserved : tie.Need-loop-lo-preserved invariant-loop-lo decreases-loop-lo
+loop-lo-preserved c =
     let a = c.before.before.before in
-    half_no _ (loop_ok a.before.before) _ _ _ _ c.if2.false (omega arith) (omega arith) a.loop.invariant c.before.feasible2.ensures
+    half_no _ (loop_ok a.before.before) _ _ _ _ c.if-feasible.false (omega arith) (omega arith) a.loop-lo.invariant c.before.feasible-in-loop-lo.ensures
 
-returns-2 : tie.Need-returns-2 invariant-loop decreases-loop
-returns-2 c = between_found _ (loop_ok c.before.before.before) _ _ c.loop-test.false c.before.loop.invariant
+returns : tie.Need-returns invariant-loop-lo decreases-loop-lo
+returns c = between_found _ (loop_ok c.before.before.before) _ _ c.loop-lo-test.false c.before.loop-lo.invariant
 
 pub recurrence_spec : {M : Type 1} → statement M
 recurrence_spec =
     tie.close
     (tie.spec
-    invariant-loop
-    decreases-loop
+    invariant-loop-lo
+    decreases-loop-lo
     feasible-requires
-    returns
-    loop-holds
-    add-mid
-    feasible-requires-2
-    loop-less
-    loop-again
-    add-lo
-    loop-less-2
-    loop-again-2
-    returns-2)
+    returns-then-not-feasible
+    loop-lo-init
+    overflow_add-mid
+    feasible-requires-in-loop-lo
+    loop-lo-smaller-then-feasible
+    loop-lo-preserved-then-feasible
+    overflow_add-lo
+    loop-lo-smaller
+    loop-lo-preserved
+    returns)

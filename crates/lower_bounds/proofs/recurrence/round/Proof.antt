@@ -14,67 +14,67 @@ use Rattle.lower_bounds.proofs.Arrays.{turn, turn_small}
 use Rattle.lower_bounds.proofs.recurrence.round.Statement.{statement}
 use Rattle.lower_bounds.proofs.recurrence.round.Tie as tie
 
-abbrev invariant-loop : tie.invariant-loop
-invariant-loop file x₀ interval m changed₀ e₀ x changed e =
+abbrev invariant-loop-e : tie.invariant-loop-e
+invariant-loop-e file x₀ interval m changed₀ e₀ x changed e =
     let l = loop_of file in
     let xs = nats (size l) x₀ in
     (e ≤ m) × (Holds (size l) x (relax_to l interval e xs) × (changed ≡ not (met_to l interval e xs)))
 
-abbrev decreases-loop : tie.decreases-loop
-decreases-loop file x₀ interval m changed₀ e₀ x changed e = m - e
+abbrev decreases-loop-e : tie.decreases-loop-e
+decreases-loop-e file x₀ interval m changed₀ e₀ x changed e = m - e
 
-abbrev start : tie.At-loop invariant-loop decreases-loop → tie.Start invariant-loop decreases-loop
+abbrev start : tie.At-loop-e invariant-loop-e decreases-loop-e → tie.Start invariant-loop-e decreases-loop-e
 start c = c.before.before.before
 
-loop_ok : (s : tie.Start invariant-loop decreases-loop) → LoopOk (loop_of s.args.file.now)
+loop_ok : (s : tie.Start invariant-loop-e decreases-loop-e) → LoopOk (loop_of s.args.file.now)
 loop_ok s = accepted_ok s.args.file.now s.requires.0
 
 -- a turn's dependence is there
-known : (c : tie.In-loop invariant-loop decreases-loop) → c.before.loop.e < length (loop_of (start c.before).args.file.now).deps
+known : (c : tie.In-loop-e invariant-loop-e decreases-loop-e) → c.before.loop-e.e < length (loop_of (start c.before).args.file.now).deps
 known c = omega arith
 
-dep-count-requires : tie.Need-dep-count-requires invariant-loop decreases-loop
-dep-count-requires c κs = c.before.requires.0
+dep_count-m-requires : tie.Need-dep_count-m-requires invariant-loop-e decreases-loop-e
+dep_count-m-requires c κs = c.before.requires.0
 
-loop-holds : tie.Need-loop-init invariant-loop decreases-loop
+loop-e-init : tie.Need-loop-e-init invariant-loop-e decreases-loop-e
 unfolding met_to
-loop-holds c = (omega arith, (rw relax_to_none c.before.before.requires.2.natural, refl))
+loop-e-init c = (omega arith, (rw relax_to_none c.before.before.requires.2.natural, refl))
 
-relax-requires : tie.Need-relax-requires invariant-loop decreases-loop
-relax-requires c κs =
+relax-rose-requires : tie.Need-relax-rose-requires invariant-loop-e decreases-loop-e
+relax-rose-requires c κs =
     let a = c.before.before in
     let s = start a in
-    (s.pre.0, known c.before, s.pre.1, turn_small _ (loop_ok s) _ _ (known c.before) _ _ s.pre.2 a.loop.invariant.1.0)
+    (s.pre.0, known c.before, s.pre.1, turn_small _ (loop_ok s) _ _ (known c.before) _ _ s.pre.2 a.loop-e.invariant.1.0)
 
-add-e : tie.Need-overflow-add-e invariant-loop decreases-loop
-add-e c = omega (arith, (loop_ok (start c.before.before.before)).sparse)
+overflow_add-e : tie.Need-overflow_add-e invariant-loop-e decreases-loop-e
+overflow_add-e c = omega (arith, (loop_ok (start c.before.before.before)).sparse)
 
-loop-less : tie.Need-loop-smaller invariant-loop decreases-loop
-loop-less c = omega arith
+loop-e-smaller : tie.Need-loop-e-smaller invariant-loop-e decreases-loop-e
+loop-e-smaller c = omega arith
 
-loop-again : tie.Need-loop-preserved invariant-loop decreases-loop
-loop-again c =
+loop-e-preserved : tie.Need-loop-e-preserved invariant-loop-e decreases-loop-e
+loop-e-preserved c =
     let t = c.before.before in
     let a = t.before in
-    (omega arith, turn _ (loop_ok (start a)) _ _ (known t) _ _ _ _ _ a.loop.invariant.1.0 a.loop.invariant.1.1 c.relax.ensures)
+    (omega arith, turn _ (loop_ok (start a)) _ _ (known t) _ _ _ _ _ a.loop-e.invariant.1.0 a.loop-e.invariant.1.1 c.relax-rose.ensures)
 
-returns : tie.Need-returns invariant-loop decreases-loop
+returns : tie.Need-returns invariant-loop-e decreases-loop-e
 unfolding round
 returns c =
     let a = c.before in
-    let e : a.loop.e ≡ length (loop_of (start a).args.file.now).deps = omega arith in
-    record { after = rw e at a.loop.invariant.1.0; test = rw e at a.loop.invariant.1.1 }
+    let e : a.loop-e.e ≡ length (loop_of (start a).args.file.now).deps = omega arith in
+    record { after = rw e at a.loop-e.invariant.1.0; test = rw e at a.loop-e.invariant.1.1 }
 
 pub round_spec : {M : Type 1} → statement M
 round_spec =
     tie.close
     (tie.spec
-    invariant-loop
-    decreases-loop
-    dep-count-requires
-    loop-holds
-    relax-requires
-    add-e
-    loop-less
-    loop-again
+    invariant-loop-e
+    decreases-loop-e
+    dep_count-m-requires
+    loop-e-init
+    relax-rose-requires
+    overflow_add-e
+    loop-e-smaller
+    loop-e-preserved
     returns)

@@ -11,24 +11,24 @@ use Rattle.model.proofs.Sums.{max_next}
 use Rattle.lower_bounds.proofs.resource.resource.Statement.{statement}
 use Rattle.lower_bounds.proofs.resource.resource.Tie as tie
 
-abbrev invariant-loop : tie.invariant-loop
-invariant-loop file most₀ s₀ most s = (1 ≤ s) × (s ≤ 25) × (most ≡ max 1 (max_of (total_on (loop_of file)) (up_from 1 (s - 1))))
+abbrev invariant-loop-s : tie.invariant-loop-s
+invariant-loop-s file most₀ s₀ most s = (1 ≤ s) × (s ≤ 25) × (most ≡ max 1 (max_of (total_on (loop_of file)) (up_from 1 (s - 1))))
 
-abbrev decreases-loop : tie.decreases-loop
-decreases-loop file most₀ s₀ most s = 25 - s
+abbrev decreases-loop-s : tie.decreases-loop-s
+decreases-loop-s file most₀ s₀ most s = 25 - s
 
-loop-holds : tie.Need-loop-init invariant-loop decreases-loop
+loop-s-init : tie.Need-loop-s-init invariant-loop-s decreases-loop-s
 unfolding max_of up_from
-loop-holds c = omega arith
+loop-s-init c = omega arith
 
-total-on-requires : tie.Need-total-on-requires invariant-loop decreases-loop
-total-on-requires c κs = c.before.before.before.requires
+total_on-t-requires : tie.Need-total_on-t-requires invariant-loop-s decreases-loop-s
+total_on-t-requires c κs = c.before.before.before.requires
 
-add-s : tie.Need-overflow-add-s invariant-loop decreases-loop
-add-s c = omega arith
+overflow_add-s : tie.Need-overflow_add-s invariant-loop-s decreases-loop-s
+overflow_add-s c = omega arith
 
-loop-less : tie.Need-loop-smaller invariant-loop decreases-loop
-loop-less c = omega arith
+loop-s-smaller : tie.Need-loop-s-smaller invariant-loop-s decreases-loop-s
+loop-s-smaller c = omega arith
 
 -- the largest number, one place further
 further : (f : ℕ → ℕ) (s : ℕ) → 1 ≤ s → max_of f (up_from 1 (s + 1 - 1)) ≡ max (max_of f (up_from 1 (s - 1))) (f s)
@@ -37,19 +37,19 @@ further f s h =
     let g : 1 + (s - 1) ≡ s = omega arith in
     rw (e, max_next f 1 (s - 1), g)
 
-loop-again : tie.Need-loop-preserved invariant-loop decreases-loop
-loop-again c =
+loop-s-preserved : tie.Need-loop-s-preserved invariant-loop-s decreases-loop-s
+loop-s-preserved c =
     let m = c.before.before.before in
-    let e = further (total_on (loop_of m.before.before.args.file.now)) m.loop.s (omega arith) in
-    ⊎_elim (λ w. omega arith) (λ w. omega arith) c.if1.branch
+    let e = further (total_on (loop_of m.before.before.args.file.now)) m.loop-s.s (omega arith) in
+    ⊎_elim (λ w. omega arith) (λ w. omega arith) c.if-most-t.branch
 
-returns : tie.Need-returns invariant-loop decreases-loop
+returns : tie.Need-returns invariant-loop-s decreases-loop-s
 unfolding resource_bound
 returns c =
-    let e : c.before.loop.s - 1 ≡ 24 = omega arith in
-    rw e at c.before.loop.invariant.2
+    let e : c.before.loop-s.s - 1 ≡ 24 = omega arith in
+    rw e at c.before.loop-s.invariant.2
 
 pub resource_spec : {M : Type 1} → statement M
 resource_spec =
     tie.close
-    (tie.spec invariant-loop decreases-loop loop-holds total-on-requires add-s loop-less loop-again returns)
+    (tie.spec invariant-loop-s decreases-loop-s loop-s-init total_on-t-requires overflow_add-s loop-s-smaller loop-s-preserved returns)

@@ -14,71 +14,71 @@ use Rattle.lower_bounds.proofs.AllUses.{total_to, total_all, total_on_lem, total
 use Rattle.lower_bounds.proofs.resource.total_on.Statement.{statement}
 use Rattle.lower_bounds.proofs.resource.total_on.Tie as tie
 
-abbrev invariant-loop : tie.invariant-loop
-invariant-loop file s n sum₀ u₀ sum u = (u ≤ n) × (sum ≡ total_to (loop_of file) s u)
+abbrev invariant-loop-u : tie.invariant-loop-u
+invariant-loop-u file s n sum₀ u₀ sum u = (u ≤ n) × (sum ≡ total_to (loop_of file) s u)
 
-abbrev decreases-loop : tie.decreases-loop
-decreases-loop file s n sum₀ u₀ sum u = n - u
+abbrev decreases-loop-u : tie.decreases-loop-u
+decreases-loop-u file s n sum₀ u₀ sum u = n - u
 
-use-total-requires : tie.Need-use-total-requires invariant-loop decreases-loop
-use-total-requires c κs = c.before.requires
+use_total-n-requires : tie.Need-use_total-n-requires invariant-loop-u decreases-loop-u
+use_total-n-requires c κs = c.before.requires
 
-loop-holds : tie.Need-loop-init invariant-loop decreases-loop
+loop-u-init : tie.Need-loop-u-init invariant-loop-u decreases-loop-u
 unfolding sum_of up_from
-loop-holds c = omega arith
+loop-u-init c = omega arith
 
-slot-requires : tie.Need-slot-requires invariant-loop decreases-loop
+slot-requires : tie.Need-slot-requires invariant-loop-u decreases-loop-u
 slot-requires c κs = (c.before.before.before.before.requires, omega arith)
 
-duration-requires : tie.Need-duration-requires invariant-loop decreases-loop
-duration-requires c κs = (c.before.before.before.before.before.before.requires, omega arith)
+duration-sum-requires : tie.Need-duration-sum-requires invariant-loop-u decreases-loop-u
+duration-sum-requires c κs = (c.before.before.before.before.before.before.requires, omega arith)
 
 -- 16 for each use so far and for this one, of at most 256
-add-sum : tie.Need-overflow-add-sum invariant-loop decreases-loop
-add-sum c =
+overflow_add-sum : tie.Need-overflow_add-sum invariant-loop-u decreases-loop-u
+overflow_add-sum c =
     let s = c.before.before.before.before.before.before.before in
     let l = loop_of s.args.file.now in
     let ok = accepted_ok s.args.file.now s.requires in
-    let u = c.before.before.before.before.loop.u in
+    let u = c.before.before.before.before.loop-u.u in
     omega (arith, all_few l ok, total_most l ok s.args.s u (omega arith), (all_ok l ok u (omega arith)).ends)
 
-add-u : tie.Need-overflow-add-u invariant-loop decreases-loop
-add-u c = omega arith
+overflow_add-u : tie.Need-overflow_add-u invariant-loop-u decreases-loop-u
+overflow_add-u c = omega arith
 
-loop-less : tie.Need-loop-smaller invariant-loop decreases-loop
-loop-less c = omega arith
+loop-u-smaller : tie.Need-loop-u-smaller invariant-loop-u decreases-loop-u
+loop-u-smaller c = omega arith
 
 -- a turn adds the duration of use u where its slot is `s`
-loop-again : tie.Need-loop-preserved invariant-loop decreases-loop
-loop-again c =
+loop-u-preserved : tie.Need-loop-u-preserved invariant-loop-u decreases-loop-u
+loop-u-preserved c =
     let s = c.before.before.before.before.before.before in
     let l = loop_of s.args.file.now in
-    let u = c.before.before.before.loop.u in
+    let u = c.before.before.before.loop-u.u in
     let e = c.before.slot.ensures in
     ⊎_elim
     (λ w. omega (arith, total_on_lem l s.args.s u (sym e ∙ w.0.taken)))
     (λ w. omega (arith, total_off l s.args.s u (λ q. w.0.left (e ∙ q))))
-    c.if1.branch
+    c.if-slot-s.branch
 
-returns : tie.Need-returns invariant-loop decreases-loop
+returns : tie.Need-returns invariant-loop-u decreases-loop-u
 returns c =
     let s = c.before.before.before.before in
     let l = loop_of s.args.file.now in
-    let e : c.before.loop.u ≡ length (all_uses l) = omega arith in
-    rw (← total_all l s.args.s, ← e) c.before.loop.invariant.1
+    let e : c.before.loop-u.u ≡ length (all_uses l) = omega arith in
+    rw (← total_all l s.args.s, ← e) c.before.loop-u.invariant.1
 
 pub total_on_spec : {M : Type 1} → statement M
 total_on_spec =
     tie.close
     (tie.spec
-    invariant-loop
-    decreases-loop
-    use-total-requires
-    loop-holds
+    invariant-loop-u
+    decreases-loop-u
+    use_total-n-requires
+    loop-u-init
     slot-requires
-    duration-requires
-    add-sum
-    add-u
-    loop-less
-    loop-again
+    duration-sum-requires
+    overflow_add-sum
+    overflow_add-u
+    loop-u-smaller
+    loop-u-preserved
     returns)

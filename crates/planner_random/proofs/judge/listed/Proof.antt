@@ -4,43 +4,43 @@ use native.Mathlib.Omega.{arith}
 use Rattle.planner_random.proofs.judge.listed.Statement.{statement}
 use Rattle.planner_random.proofs.judge.listed.Tie as tie
 
-abbrev invariant-loop : tie.invariant-loop
-invariant-loop starts n horizon right₀ op₀ right op = Unit
+abbrev invariant-loop-op : tie.invariant-loop-op
+invariant-loop-op starts n horizon right₀ op₀ right op = Unit
 
-abbrev decreases-loop : tie.decreases-loop
-decreases-loop starts n horizon right₀ op₀ right op = 6 - op
+abbrev decreases-loop-op : tie.decreases-loop-op
+decreases-loop-op starts n horizon right₀ op₀ right op = 6 - op
 
-loop-holds : tie.Need-loop-init invariant-loop decreases-loop
-loop-holds c = tt
+loop-op-init : tie.Need-loop-op-init invariant-loop-op decreases-loop-op
+loop-op-init c = tt
 
-mul-s : tie.Need-overflow-mul-s invariant-loop decreases-loop
-mul-s c = omega arith
+offset_bounds-starts-op : tie.Need-offset_bounds-starts-op invariant-loop-op decreases-loop-op
+offset_bounds-starts-op c = omega arith
 
-element-copy-out-s : tie.Need-element-copy-out-s invariant-loop decreases-loop
-element-copy-out-s c = omega arith
+bounds-starts-op : tie.Need-bounds-starts-op invariant-loop-op decreases-loop-op
+bounds-starts-op c = omega arith
 
-add-op : tie.Need-overflow-add-op invariant-loop decreases-loop
-add-op c = omega arith
+overflow_add-op : tie.Need-overflow_add-op invariant-loop-op decreases-loop-op
+overflow_add-op c = omega arith
 
-loop-less : tie.Need-loop-smaller invariant-loop decreases-loop
-loop-less c = omega arith
+loop-op-smaller : tie.Need-loop-op-smaller invariant-loop-op decreases-loop-op
+loop-op-smaller c = omega arith
 
-loop-again : tie.Need-loop-preserved invariant-loop decreases-loop
-loop-again c = tt
+loop-op-preserved : tie.Need-loop-op-preserved invariant-loop-op decreases-loop-op
+loop-op-preserved c = tt
 
-returns : tie.Need-returns invariant-loop decreases-loop
+returns : tie.Need-returns invariant-loop-op decreases-loop-op
 returns c = tt
 
 pub listed_spec : {M : Type 1} → statement M
 listed_spec =
     tie.close
     (tie.spec
-    invariant-loop
-    decreases-loop
-    loop-holds
-    mul-s
-    element-copy-out-s
-    add-op
-    loop-less
-    loop-again
+    invariant-loop-op
+    decreases-loop-op
+    loop-op-init
+    offset_bounds-starts-op
+    bounds-starts-op
+    overflow_add-op
+    loop-op-smaller
+    loop-op-preserved
     returns)

@@ -4,47 +4,47 @@ use native.Mathlib.Omega.{arith}
 use Rattle.planner_random.proofs.judge.smallest.Statement.{statement}
 use Rattle.planner_random.proofs.judge.smallest.Tie as tie
 
-abbrev invariant-loop : tie.invariant-loop
-invariant-loop d interval₀ interval = Unit
+abbrev invariant-loop-interval : tie.invariant-loop-interval
+invariant-loop-interval d interval₀ interval = Unit
 
-abbrev decreases-loop : tie.decreases-loop
-decreases-loop d interval₀ interval = d.interval - interval
+abbrev decreases-loop-interval : tie.decreases-loop-interval
+decreases-loop-interval d interval₀ interval = d.interval - interval
 
-loop-holds : tie.Need-loop-init invariant-loop decreases-loop
-loop-holds c = tt
+loop-interval-init : tie.Need-loop-interval-init invariant-loop-interval decreases-loop-interval
+loop-interval-init c = tt
 
-add-interval : tie.Need-overflow-add-interval invariant-loop decreases-loop
-add-interval c = omega arith
+overflow_add-interval : tie.Need-overflow_add-interval invariant-loop-interval decreases-loop-interval
+overflow_add-interval c = omega arith
 
-first-legal-requires : tie.Need-first-legal-requires invariant-loop decreases-loop
-first-legal-requires c κs = tt
+first_legal-requires : tie.Need-first_legal-requires invariant-loop-interval decreases-loop-interval
+first_legal-requires c κs = tt
 
-cast-result : tie.Need-overflow-cast-result invariant-loop decreases-loop
-cast-result c = omega arith
+overflow_cast-result : tie.Need-overflow_cast-result invariant-loop-interval decreases-loop-interval
+overflow_cast-result c = omega arith
 
-returns : tie.Need-returns invariant-loop decreases-loop
+returns-then-first_legal-lt-NONE : tie.Need-returns-then-first_legal-lt-NONE invariant-loop-interval decreases-loop-interval
+returns-then-first_legal-lt-NONE c = tt
+
+loop-interval-smaller : tie.Need-loop-interval-smaller invariant-loop-interval decreases-loop-interval
+loop-interval-smaller c = omega arith
+
+loop-interval-preserved : tie.Need-loop-interval-preserved invariant-loop-interval decreases-loop-interval
+loop-interval-preserved c = tt
+
+returns : tie.Need-returns invariant-loop-interval decreases-loop-interval
 returns c = tt
-
-loop-less : tie.Need-loop-smaller invariant-loop decreases-loop
-loop-less c = omega arith
-
-loop-again : tie.Need-loop-preserved invariant-loop decreases-loop
-loop-again c = tt
-
-returns-2 : tie.Need-returns-2 invariant-loop decreases-loop
-returns-2 c = tt
 
 pub smallest_spec : {M : Type 1} → statement M
 smallest_spec =
     tie.close
     (tie.spec
-    invariant-loop
-    decreases-loop
-    loop-holds
-    add-interval
-    first-legal-requires
-    cast-result
-    returns
-    loop-less
-    loop-again
-    returns-2)
+    invariant-loop-interval
+    decreases-loop-interval
+    loop-interval-init
+    overflow_add-interval
+    first_legal-requires
+    overflow_cast-result
+    returns-then-first_legal-lt-NONE
+    loop-interval-smaller
+    loop-interval-preserved
+    returns)

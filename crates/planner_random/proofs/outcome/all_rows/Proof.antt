@@ -4,43 +4,43 @@ use native.Mathlib.Omega.{arith}
 use Rattle.planner_random.proofs.outcome.all_rows.Statement.{statement}
 use Rattle.planner_random.proofs.outcome.all_rows.Tie as tie
 
-abbrev invariant-loop : tie.invariant-loop
-invariant-loop rows row same₀ i₀ same i = Unit
+abbrev invariant-loop-i : tie.invariant-loop-i
+invariant-loop-i rows row same₀ i₀ same i = Unit
 
-abbrev decreases-loop : tie.decreases-loop
-decreases-loop rows row same₀ i₀ same i = 4096 - i
+abbrev decreases-loop-i : tie.decreases-loop-i
+decreases-loop-i rows row same₀ i₀ same i = 4096 - i
 
-loop-holds : tie.Need-loop-init invariant-loop decreases-loop
-loop-holds c = tt
+loop-i-init : tie.Need-loop-i-init invariant-loop-i decreases-loop-i
+loop-i-init c = tt
 
-mul-same : tie.Need-overflow-mul-same invariant-loop decreases-loop
-mul-same c = omega arith
+offset_bounds-rows-i : tie.Need-offset_bounds-rows-i invariant-loop-i decreases-loop-i
+offset_bounds-rows-i c = omega arith
 
-element-copy-out-same : tie.Need-element-copy-out-same invariant-loop decreases-loop
-element-copy-out-same c = omega arith
+bounds-rows-i : tie.Need-bounds-rows-i invariant-loop-i decreases-loop-i
+bounds-rows-i c = omega arith
 
-add-i : tie.Need-overflow-add-i invariant-loop decreases-loop
-add-i c = omega arith
+overflow_add-i : tie.Need-overflow_add-i invariant-loop-i decreases-loop-i
+overflow_add-i c = omega arith
 
-loop-less : tie.Need-loop-smaller invariant-loop decreases-loop
-loop-less c = omega arith
+loop-i-smaller : tie.Need-loop-i-smaller invariant-loop-i decreases-loop-i
+loop-i-smaller c = omega arith
 
-loop-again : tie.Need-loop-preserved invariant-loop decreases-loop
-loop-again c = tt
+loop-i-preserved : tie.Need-loop-i-preserved invariant-loop-i decreases-loop-i
+loop-i-preserved c = tt
 
-returns : tie.Need-returns invariant-loop decreases-loop
+returns : tie.Need-returns invariant-loop-i decreases-loop-i
 returns c = tt
 
 pub all_rows_spec : {M : Type 1} → statement M
 all_rows_spec =
     tie.close
     (tie.spec
-    invariant-loop
-    decreases-loop
-    loop-holds
-    mul-same
-    element-copy-out-same
-    add-i
-    loop-less
-    loop-again
+    invariant-loop-i
+    decreases-loop-i
+    loop-i-init
+    offset_bounds-rows-i
+    bounds-rows-i
+    overflow_add-i
+    loop-i-smaller
+    loop-i-preserved
     returns)

@@ -4,43 +4,43 @@ use borrow.Author.Rules.{rules}
 use Rattle.reader_cases.proofs.show.dependences.Statement.{statement}
 use Rattle.reader_cases.proofs.show.dependences.Tie as tie
 
-abbrev invariant-loop : tie.invariant-loop
-invariant-loop file n e₀ e = Unit
+abbrev invariant-loop-e : tie.invariant-loop-e
+invariant-loop-e file n e₀ e = Unit
 
-abbrev decreases-loop : tie.decreases-loop
-decreases-loop file n e₀ e = n - e
+abbrev decreases-loop-e : tie.decreases-loop-e
+decreases-loop-e file n e₀ e = n - e
 
-dep-count-requires : tie.Need-dep-count-requires invariant-loop decreases-loop
-dep-count-requires c κs = search rules
+dep_count-n-requires : tie.Need-dep_count-n-requires invariant-loop-e decreases-loop-e
+dep_count-n-requires c κs = search rules
 
-loop-holds : tie.Need-loop-init invariant-loop decreases-loop
-loop-holds c = search rules
+loop-e-init : tie.Need-loop-e-init invariant-loop-e decreases-loop-e
+loop-e-init c = search rules
 
-dependence-requires : tie.Need-dependence-requires invariant-loop decreases-loop
+dependence-requires : tie.Need-dependence-requires invariant-loop-e decreases-loop-e
 dependence-requires c κs = search rules
 
-add-e : tie.Need-overflow-add-e invariant-loop decreases-loop
-add-e c = search rules
+overflow_add-e : tie.Need-overflow_add-e invariant-loop-e decreases-loop-e
+overflow_add-e c = search rules
 
-loop-less : tie.Need-loop-smaller invariant-loop decreases-loop
-loop-less c = search rules
+loop-e-smaller : tie.Need-loop-e-smaller invariant-loop-e decreases-loop-e
+loop-e-smaller c = search rules
 
-loop-again : tie.Need-loop-preserved invariant-loop decreases-loop
-loop-again c = search rules
+loop-e-preserved : tie.Need-loop-e-preserved invariant-loop-e decreases-loop-e
+loop-e-preserved c = search rules
 
-returns : tie.Need-returns invariant-loop decreases-loop
+returns : tie.Need-returns invariant-loop-e decreases-loop-e
 returns c = search rules
 
 pub dependences_spec : {M : Type 1} → statement M
 dependences_spec =
     tie.close
     (tie.spec
-    invariant-loop
-    decreases-loop
-    dep-count-requires
-    loop-holds
+    invariant-loop-e
+    decreases-loop-e
+    dep_count-n-requires
+    loop-e-init
     dependence-requires
-    add-e
-    loop-less
-    loop-again
+    overflow_add-e
+    loop-e-smaller
+    loop-e-preserved
     returns)

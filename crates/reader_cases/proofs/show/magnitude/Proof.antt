@@ -33,30 +33,30 @@ above : (z : ℤ) → SFits w32 z → lt_z z (pos 0) ≡ false → T (non_neg z)
 above (pos n) f h = (tt, omega arith)
 above (negsuc n) f h = let z : ◌≡◌ {A = ℕ} 0 1 = cc in absurd (omega arith)
 
-cast-result : tie.Need-overflow-cast-result
-cast-result c = let f = c.before.ranges.x in rw (to_z-of_z w32 _ f) (wider f)
+overflow_cast-result : tie.Need-overflow_cast-result
+overflow_cast-result c = let f = c.before.ranges.x in rw (to_z-of_z w32 _ f) (wider f)
 
-sub-result : tie.Need-overflow-sub-result
-sub-result c =
+overflow_sub-result : tie.Need-overflow_sub-result
+overflow_sub-result c =
     let f = c.before.ranges.x in
-    rw (to_z-of_z w32 _ f, to_z-of_z w64 _ (wider f)) (negated _ f (rw (to_z-of_z w32 _ f) at c.if1.true))
+    rw (to_z-of_z w32 _ f, to_z-of_z w64 _ (wider f)) (negated _ f (rw (to_z-of_z w32 _ f) at c.if-x-lt0.true))
 
-cast-result-2 : tie.Need-overflow-cast-result-2
-cast-result-2 c =
+overflow_cast-result-then-x-lt0 : tie.Need-overflow_cast-result-then-x-lt0
+overflow_cast-result-then-x-lt0 c =
     let f = c.before.ranges.x in
-    let h = rw (to_z-of_z w32 _ f) at c.if1.true in
+    let h = rw (to_z-of_z w32 _ f) at c.if-x-lt0.true in
     rw (to_z-of_z w32 _ f, to_z-of_z w64 _ (wider f), to_z-of_z w64 _ (negated _ f h)) (below _ f h)
 
-cast-result-3 : tie.Need-overflow-cast-result-3
-cast-result-3 c =
+overflow_cast-result-else-x-lt0 : tie.Need-overflow_cast-result-else-x-lt0
+overflow_cast-result-else-x-lt0 c =
     let f = c.before.ranges.x in
-    rw (to_z-of_z w32 _ f) (above _ f (rw (to_z-of_z w32 _ f) at c.if1.false))
+    rw (to_z-of_z w32 _ f) (above _ f (rw (to_z-of_z w32 _ f) at c.if-x-lt0.false))
 
-returns : tie.Need-returns
-returns c = search rules
+returns-then-x-lt0 : tie.Need-returns-then-x-lt0
+returns-then-x-lt0 c = search rules
 
-returns-2 : tie.Need-returns-2
-returns-2 c = search rules
+returns-else-x-lt0 : tie.Need-returns-else-x-lt0
+returns-else-x-lt0 c = search rules
 
 pub magnitude_spec : {M : Type 1} → statement M
-magnitude_spec = tie.close (tie.spec cast-result sub-result cast-result-2 cast-result-3 returns returns-2)
+magnitude_spec = tie.close (tie.spec overflow_cast-result overflow_sub-result overflow_cast-result-then-x-lt0 overflow_cast-result-else-x-lt0 returns-then-x-lt0 returns-else-x-lt0)

@@ -10,12 +10,12 @@ use Rattle.reader_cases.proofs.show.records.Tie as tie
 read-requires : tie.Need-read-requires
 read-requires c κs = search rules
 
-enum_told : tie.Need-enum-told
-enum_told c = search rules
+enum_told-1 : tie.Need-enum_told-1
+enum_told-1 c = search rules
 
 -- the file is accepted
-accepted : (c : tie.After-enum-told) → Accepted c.before.before.before.before.args.file.now
-accepted c = (read_accepted _ _ _ _ (sym (ap reading_of c.enum_told.given.1) ∙ c.before.before.read.ensures)).file
+accepted : (c : tie.In-Accepted) → Accepted c.before.before.before.before.args.file.now
+accepted c = (read_accepted _ _ _ _ (sym (ap reading_of c.enum_told-1.given.1) ∙ c.before.before.read.ensures)).file
 
 operations-requires : tie.Need-operations-requires
 operations-requires c κs = accepted c
@@ -26,24 +26,24 @@ uses-requires c κs = accepted c.before
 dependences-requires : tie.Need-dependences-requires
 dependences-requires c κs = accepted c.before.before
 
-enum-told-2 : tie.Need-enum-told-2
-enum-told-2 c = search rules
+enum_told-in_default : tie.Need-enum_told-in_default
+enum_told-in_default c = search rules
 
-returns : tie.Need-returns
-returns c = search rules
+returns-in-Accepted : tie.Need-returns-in-Accepted
+returns-in-Accepted c = search rules
 
-returns-2 : tie.Need-returns-2
-returns-2 c = search rules
+returns-in_default : tie.Need-returns-in_default
+returns-in_default c = search rules
 
 pub records_spec : {M : Type 1} → statement M
 records_spec =
     tie.close
     (tie.spec
     read-requires
-    enum_told
+    enum_told-1
     operations-requires
     uses-requires
     dependences-requires
-    enum-told-2
-    returns
-    returns-2)
+    enum_told-in_default
+    returns-in-Accepted
+    returns-in_default)

@@ -15,136 +15,136 @@ use Rattle.replay.proofs.parts.make.Tie as tie
 -- ---- which call it is, where a kind is found
 
 -- the function's entry, as the tests of the kind see it
-abbrev start : tie.After-slice-known → tie.Start
+abbrev start : tie.After-slice_known-1 → tie.Start
 start c = c.before.before
 
 -- the call that the three numbers are
 abbrev called : tie.Start → model.Call
 called s = call_of s.args.kind s.args.a s.args.b
 
-is_place : (c : tie.Then1) → let s = start c.before in called s ≡ model.place s.args.a s.args.b
-is_place c = kind_place _ _ _ c.if1.true
+is_place : (c : tie.Then-kind-eq1) → let s = start c.before in called s ≡ model.place s.args.a s.args.b
+is_place c = kind_place _ _ _ c.if-kind-eq1.true
 
-is_force : (c : tie.Then2) → let s = start c.before.before in called s ≡ model.force s.args.a s.args.b
-is_force c = kind_force _ _ _ c.before.if1.false c.if2.true
+is_force : (c : tie.Then-kind-eq2) → let s = start c.before.before in called s ≡ model.force s.args.a s.args.b
+is_force c = kind_force _ _ _ c.before.if-kind-eq1.false c.if-kind-eq2.true
 
-is_remove : (c : tie.Then3) → let s = start c.before.before.before in called s ≡ model.remove s.args.a
-is_remove c = let e = c.before in kind_remove _ _ _ e.before.if1.false e.if2.false c.if3.true
+is_remove : (c : tie.Then-kind-eq3) → let s = start c.before.before.before in called s ≡ model.remove s.args.a
+is_remove c = let e = c.before in kind_remove _ _ _ e.before.if-kind-eq1.false e.if-kind-eq2.false c.if-kind-eq3.true
 
-is_checkpoint : (c : tie.Then4) → called (start c.before.before.before.before) ≡ model.checkpoint
-is_checkpoint c = let e = c.before in let f = e.before in kind_checkpoint _ _ _ f.before.if1.false f.if2.false e.if3.false c.if4.true
+is_checkpoint : (c : tie.Then-kind-eq4) → called (start c.before.before.before.before) ≡ model.checkpoint
+is_checkpoint c = let e = c.before in let f = e.before in kind_checkpoint _ _ _ f.before.if-kind-eq1.false f.if-kind-eq2.false e.if-kind-eq3.false c.if-kind-eq4.true
 
-is_release : (c : tie.Then6) → called (start c.before.before.before.before.before) ≡ model.release
+is_release : (c : tie.Then-kind-ne6) → called (start c.before.before.before.before.before) ≡ model.release
 is_release c =
     let e = c.before in
     let f = e.before in
     let g = f.before in
-    kind_release _ _ _ g.before.if1.false g.if2.false f.if3.false e.if4.false c.if6.true
+    kind_release _ _ _ g.before.if-kind-eq1.false g.if-kind-eq2.false f.if-kind-eq3.false e.if-kind-eq4.false c.if-kind-ne6.true
 
-is_rollback : (c : tie.Else6) → let s = start c.before.before.before.before.before in called s ≡ model.rollback s.args.a
+is_rollback : (c : tie.Else-kind-ne6) → let s = start c.before.before.before.before.before in called s ≡ model.rollback s.args.a
 is_rollback c =
     let e = c.before in
     let f = e.before in
     let g = f.before in
-    kind_rollback _ _ _ g.before.if1.false g.if2.false f.if3.false e.if4.false c.if6.false
+    kind_rollback _ _ _ g.before.if-kind-eq1.false g.if-kind-eq2.false f.if-kind-eq3.false e.if-kind-eq4.false c.if-kind-ne6.false
 
 -- ---- starts and rows
 
 place-requires : tie.Need-place-requires
-place-requires c κs = let v = c.before.before.before.before.before.before.requires.valid in (omega (arith, v.stored, v.fits_in), v.board, v.free)
+place-requires c κs = let v = c.before.before.before.before.before.before.requires.valid in (omega (arith, v.stored, v.fits_in), v.board, v.free-1)
 
 told-requires : tie.Need-told-requires
 told-requires c κs = omega arith
 
-same_length : tie.Need-same-length
-same_length c = omega arith
+shape_of-rows-then-kind-eq1 : tie.Need-shape_of-rows-then-kind-eq1
+shape_of-rows-then-kind-eq1 c = omega arith
 
-returns : tie.Need-returns
-returns c =
+returns-then-kind-eq1 : tie.Need-returns-then-kind-eq1
+returns-then-kind-eq1 c =
     let m = c.before.before.before in
     rw c.told.ensures (turned_did _ (is_place m.before.before.before.before) (λ v ok. stepped_plain _ _ ok (model.place _ _) (λ x cs. refl) (λ x cs. refl) m.place.ensures))
 
 force-requires : tie.Need-force-requires
-force-requires c κs = let v = c.before.before.before.before.before.before.before.requires.valid in (omega (arith, v.stored, v.fits_in), v.board, v.free)
+force-requires c κs = let v = c.before.before.before.before.before.before.before.requires.valid in (omega (arith, v.stored, v.fits_in), v.board, v.free-1)
 
-told-requires-2 : tie.Need-told-requires-2
-told-requires-2 c κs = omega arith
+told-requires-then-kind-eq2 : tie.Need-told-requires-then-kind-eq2
+told-requires-then-kind-eq2 c κs = omega arith
 
-same-length-2 : tie.Need-same-length-2
-same-length-2 c = omega arith
+shape_of-rows-then-kind-eq2 : tie.Need-shape_of-rows-then-kind-eq2
+shape_of-rows-then-kind-eq2 c = omega arith
 
-returns-2 : tie.Need-returns-2
-returns-2 c =
+returns-then-kind-eq2 : tie.Need-returns-then-kind-eq2
+returns-then-kind-eq2 c =
     let m = c.before.before.before in
-    rw c.told2.ensures (turned_did _ (is_force m.before.before.before.before) (λ v ok. stepped_plain _ _ ok (model.force _ _) (λ x cs. refl) (λ x cs. refl) m.force.ensures))
+    rw c.told-then-kind-eq2.ensures (turned_did _ (is_force m.before.before.before.before) (λ v ok. stepped_plain _ _ ok (model.force _ _) (λ x cs. refl) (λ x cs. refl) m.force.ensures))
 
 remove-requires : tie.Need-remove-requires
 remove-requires c κs =
     let v = c.before.before.before.before.before.before.before.before.requires.valid in
-    (omega (arith, v.stored, v.fits_in), board_far v.board, v.free)
+    (omega (arith, v.stored, v.fits_in), board_far v.board, v.free-1)
 
-told-requires-3 : tie.Need-told-requires-3
-told-requires-3 c κs = omega arith
+told-requires-then-kind-eq3 : tie.Need-told-requires-then-kind-eq3
+told-requires-then-kind-eq3 c κs = omega arith
 
-same-length-3 : tie.Need-same-length-3
-same-length-3 c = omega arith
+shape_of-rows-then-kind-eq3 : tie.Need-shape_of-rows-then-kind-eq3
+shape_of-rows-then-kind-eq3 c = omega arith
 
-returns-3 : tie.Need-returns-3
-returns-3 c =
+returns-then-kind-eq3 : tie.Need-returns-then-kind-eq3
+returns-then-kind-eq3 c =
     let m = c.before.before.before in
-    rw c.told3.ensures (turned_did _ (is_remove m.before.before.before.before) (λ v ok. stepped_plain _ _ ok (model.remove _) (λ x cs. refl) (λ x cs. refl) (m.remove.ensures.0 _ ok.board, m.remove.ensures.1)))
+    rw c.told-then-kind-eq3.ensures (turned_did _ (is_remove m.before.before.before.before) (λ v ok. stepped_plain _ _ ok (model.remove _) (λ x cs. refl) (λ x cs. refl) (m.remove.ensures.0 _ ok.board, m.remove.ensures.1)))
 
 -- ---- checkpoints
 
-told-requires-4 : tie.Need-told-requires-4
-told-requires-4 c κs = omega arith
+told-requires-then-marks-ge16 : tie.Need-told-requires-then-marks-ge16
+told-requires-then-marks-ge16 c κs = omega arith
 
-returns-4 : tie.Need-returns-4
-returns-4 c = let t = c.before in rw c.told4.ensures (turned_did _ (is_checkpoint t.before) (λ v ok. full _ _ ok t.if5.true))
+returns-then-marks-ge16 : tie.Need-returns-then-marks-ge16
+returns-then-marks-ge16 c = let t = c.before in rw c.told-then-marks-ge16.ensures (turned_did _ (is_checkpoint t.before) (λ v ok. full _ _ ok t.if-marks-ge16.true))
 
-add-told : tie.Need-overflow-add-told
-add-told c = omega arith
+overflow_add-marks : tie.Need-overflow_add-marks
+overflow_add-marks c = omega arith
 
-add-t33 : tie.Need-overflow-add-t33
-add-t33 c = omega arith
+overflow_add-marks-then-kind-eq4 : tie.Need-overflow_add-marks-then-kind-eq4
+overflow_add-marks-then-kind-eq4 c = omega arith
 
-told-requires-5 : tie.Need-told-requires-5
-told-requires-5 c κs = omega arith
+told-requires-then-kind-eq4 : tie.Need-told-requires-then-kind-eq4
+told-requires-then-kind-eq4 c κs = omega arith
 
-returns-5 : tie.Need-returns-5
-returns-5 c = let t = c.before in rw c.told5.ensures (turned_checkpoint (is_checkpoint t.before) t.if5.false)
+returns-then-kind-eq4 : tie.Need-returns-then-kind-eq4
+returns-then-kind-eq4 c = let t = c.before in rw c.told-then-kind-eq4.ensures (turned_checkpoint (is_checkpoint t.before) t.if-marks-ge16.false)
 
-told-requires-6 : tie.Need-told-requires-6
-told-requires-6 c κs = omega arith
+told-requires-then-marks-eq0 : tie.Need-told-requires-then-marks-eq0
+told-requires-then-marks-eq0 c κs = omega arith
 
-returns-6 : tie.Need-returns-6
-returns-6 c = let t = c.before in rw c.told6.ensures (turned_did _ (is_release t.before) (λ v ok. none_open _ _ ok t.if7.true))
+returns-then-marks-eq0 : tie.Need-returns-then-marks-eq0
+returns-then-marks-eq0 c = let t = c.before in rw c.told-then-marks-eq0.ensures (turned_did _ (is_release t.before) (λ v ok. none_open _ _ ok t.if-marks-eq0.true))
 
-sub_told : tie.Need-overflow-sub-told
-sub_told c = omega arith
+overflow_sub-marks : tie.Need-overflow_sub-marks
+overflow_sub-marks c = omega arith
 
-told-requires-7 : tie.Need-told-requires-7
-told-requires-7 c κs = omega arith
+told-requires-then-kind-ne6 : tie.Need-told-requires-then-kind-ne6
+told-requires-then-kind-ne6 c κs = omega arith
 
-returns-7 : tie.Need-returns-7
-returns-7 c = let t = c.before in rw c.told7.ensures (turned_release (is_release t.before) t.if7.false)
+returns-then-kind-ne6 : tie.Need-returns-then-kind-ne6
+returns-then-kind-ne6 c = let t = c.before in rw c.told-then-kind-ne6.ensures (turned_release (is_release t.before) t.if-marks-eq0.false)
 
 -- ---- rollback
 
-told-requires-8 : tie.Need-told-requires-8
-told-requires-8 c κs = omega arith
+told-requires-then-a-eq0 : tie.Need-told-requires-then-a-eq0
+told-requires-then-a-eq0 c κs = omega arith
 
-returns-8 : tie.Need-returns-8
-returns-8 c = let t = c.before in rw c.told8.ensures (turned_did _ (is_rollback t.before) (λ v ok. no_mark _ _ ok _ t.if8.true))
+returns-then-a-eq0 : tie.Need-returns-then-a-eq0
+returns-then-a-eq0 c = let t = c.before in rw c.told-then-a-eq0.ensures (turned_did _ (is_rollback t.before) (λ v ok. no_mark _ _ ok _ t.if-a-eq0.true))
 
-told-requires-9 : tie.Need-told-requires-9
-told-requires-9 c κs = omega arith
+told-requires-then-marks-a : tie.Need-told-requires-then-marks-a
+told-requires-then-marks-a c κs = omega arith
 
-returns-9 : tie.Need-returns-9
-returns-9 c =
+returns-then-marks-a : tie.Need-returns-then-marks-a
+returns-then-marks-a c =
     let t = c.before in
     let e = t.before in
-    rw c.told9.ensures (turned_did _ (is_rollback e.before) (λ v ok. not_open _ _ ok _ e.if8.false t.if9.true))
+    rw c.told-then-marks-a.ensures (turned_did _ (is_rollback e.before) (λ v ok. not_open _ _ ok _ e.if-a-eq0.false t.if-marks-a.true))
 
 restore-requires : tie.Need-restore-requires
 restore-requires c κs =
@@ -152,24 +152,24 @@ restore-requires c κs =
     let e = t.before in
     let s = start e.before.before.before.before.before.before in
     let v = s.pre.valid in
-    let there : s.args.a ≤ s.args.marks = omega (arith, t.if9.false) in (
+    let there : s.args.a ≤ s.args.marks = omega (arith, t.if-marks-a.false) in (
       omega (arith, v.stored, v.fits_in),
       board_far v.board,
-      rw (← ap (λ (p : Kept). p.starts) (s.pre.wanted_is e.before.if6.false (omega (arith, e.if8.false)) there)) (sane_more v.board.numbers.far (wanted_sane _ _ v s.args.a e.if8.false there blank)),
+      rw (← ap (λ (p : Kept). p.starts) (s.pre.wanted_is e.before.if-kind-ne6.false (omega (arith, e.if-a-eq0.false)) there)) (sane_more v.board.numbers.far (wanted_sane _ _ v s.args.a e.if-a-eq0.false there blank)),
     )
 
-told-requires-10 : tie.Need-told-requires-10
-told-requires-10 c κs = omega arith
+told-requires-2 : tie.Need-told-requires-2
+told-requires-2 c κs = omega arith
 
-same-length-4 : tie.Need-same-length-4
-same-length-4 c = omega arith
+shape_of-rows : tie.Need-shape_of-rows
+shape_of-rows c = omega arith
 
-returns-10 : tie.Need-returns-10
-returns-10 c =
+returns : tie.Need-returns
+returns c =
     let m = c.before.before.before.before in
     let t = m.before.before.before in
     let e = t.before in
-    rw c.told10.ensures (turned_rollback e.before.if6.false (is_rollback e.before) e.if8.false (omega (arith, t.if9.false)) m.restore.ensures)
+    rw c.told-2.ensures (turned_rollback e.before.if-kind-ne6.false (is_rollback e.before) e.if-a-eq0.false (omega (arith, t.if-marks-a.false)) m.restore.ensures)
 
 pub make_spec : {M : Type 1} → statement M
 make_spec =
@@ -177,32 +177,32 @@ make_spec =
     (tie.spec
     place-requires
     told-requires
-    same_length
-    returns
+    shape_of-rows-then-kind-eq1
+    returns-then-kind-eq1
     force-requires
-    told-requires-2
-    same-length-2
-    returns-2
+    told-requires-then-kind-eq2
+    shape_of-rows-then-kind-eq2
+    returns-then-kind-eq2
     remove-requires
-    told-requires-3
-    same-length-3
-    returns-3
-    told-requires-4
-    returns-4
-    add-told
-    add-t33
-    told-requires-5
-    returns-5
-    told-requires-6
-    returns-6
-    sub_told
-    told-requires-7
-    returns-7
-    told-requires-8
-    returns-8
-    told-requires-9
-    returns-9
+    told-requires-then-kind-eq3
+    shape_of-rows-then-kind-eq3
+    returns-then-kind-eq3
+    told-requires-then-marks-ge16
+    returns-then-marks-ge16
+    overflow_add-marks
+    overflow_add-marks-then-kind-eq4
+    told-requires-then-kind-eq4
+    returns-then-kind-eq4
+    told-requires-then-marks-eq0
+    returns-then-marks-eq0
+    overflow_sub-marks
+    told-requires-then-kind-ne6
+    returns-then-kind-ne6
+    told-requires-then-a-eq0
+    returns-then-a-eq0
+    told-requires-then-marks-a
+    returns-then-marks-a
     restore-requires
-    told-requires-10
-    same-length-4
-    returns-10)
+    told-requires-2
+    shape_of-rows
+    returns)

@@ -10,62 +10,62 @@ use Rattle.reservation.proofs.cells.release_use.Statement.{statement}
 use Rattle.reservation.proofs.cells.release_use.Tie as tie
 use Rattle.model.specs.Table.{row_base}
 
-abbrev invariant-loop : tie.invariant-loop
-invariant-loop rows₀ interval start n slot k₀ rows k = (k ≤ n) × (rows ≡ over_use (less_one row_base slot) interval start k rows₀)
+abbrev invariant-loop-k : tie.invariant-loop-k
+invariant-loop-k rows₀ interval start n slot k₀ rows k = (k ≤ n) × (rows ≡ over_use (less_one row_base slot) interval start k rows₀)
 
-abbrev decreases-loop : tie.decreases-loop
-decreases-loop rows₀ interval start n slot k₀ rows k = n - k
+abbrev decreases-loop-k : tie.decreases-loop-k
+decreases-loop-k rows₀ interval start n slot k₀ rows k = n - k
 
-loop-holds : tie.Need-loop-init invariant-loop decreases-loop
+loop-k-init : tie.Need-loop-k-init invariant-loop-k decreases-loop-k
 unfolding over_use
-loop-holds c = (omega arith, refl)
+loop-k-init c = (omega arith, refl)
 
-add-clear-bit : tie.Need-overflow-add-clear-bit invariant-loop decreases-loop
-add-clear-bit c = omega arith
+overflow_add-start : tie.Need-overflow_add-start invariant-loop-k decreases-loop-k
+overflow_add-start c = omega arith
 
-rem-clear-bit : tie.Need-nonzero-rem-clear-bit invariant-loop decreases-loop
-rem-clear-bit c = omega arith
+nonzero_rem-start : tie.Need-nonzero_rem-start invariant-loop-k decreases-loop-k
+nonzero_rem-start c = omega arith
 
-clear-bit-requires : tie.Need-clear-bit-requires invariant-loop decreases-loop
-clear-bit-requires c κs =
+clear_bit-requires : tie.Need-clear_bit-requires invariant-loop-k decreases-loop-k
+clear_bit-requires c κs =
     let b = c.before.before in
     let s = b.before.before in
     let a = s.args in
-    rw b.loop.invariant.1
-    (over_turn (less_one row_base a.slot) 1 a.rows.now a.interval a.start a.n a.slot s.requires b.loop.k (omega arith))
+    rw b.loop-k.invariant.1
+    (over_turn (less_one row_base a.slot) 1 a.rows-1.now a.interval a.start a.n a.slot s.requires b.loop-k.k (omega arith))
 
-add-k : tie.Need-overflow-add-k invariant-loop decreases-loop
-add-k c = omega arith
+overflow_add-k : tie.Need-overflow_add-k invariant-loop-k decreases-loop-k
+overflow_add-k c = omega arith
 
-loop-less : tie.Need-loop-smaller invariant-loop decreases-loop
-loop-less c = omega arith
+loop-k-smaller : tie.Need-loop-k-smaller invariant-loop-k decreases-loop-k
+loop-k-smaller c = omega arith
 
-loop-again : tie.Need-loop-preserved invariant-loop decreases-loop
+loop-k-preserved : tie.Need-loop-k-preserved invariant-loop-k decreases-loop-k
 unfolding over_use
-loop-again c =
+loop-k-preserved c =
     let b = c.before.before.before.before.before in
-    (omega arith, c.before.before.clear_bit.ensures ∙ rw (b.loop.invariant.1, add-one b.loop.k))
+    (omega arith, c.before.before.clear_bit.ensures ∙ rw (b.loop-k.invariant.1, add-one b.loop-k.k))
 
-same_length : tie.Need-same-length invariant-loop decreases-loop
-same_length c = rw (c.before.loop.invariant.1, length_over)
+shape_of-rows : tie.Need-shape_of-rows invariant-loop-k decreases-loop-k
+shape_of-rows c = rw (c.before.loop-k.invariant.1, length_over)
 
-returns : tie.Need-returns invariant-loop decreases-loop
+returns : tie.Need-returns invariant-loop-k decreases-loop-k
 returns c =
     let a = c.before.before.before.args in
-    c.before.loop.invariant.1 ∙ ap (λ (k : ℕ). over_use (less_one row_base a.slot) a.interval a.start k a.rows.now) (omega arith)
+    c.before.loop-k.invariant.1 ∙ ap (λ (k : ℕ). over_use (less_one row_base a.slot) a.interval a.start k a.rows-1.now) (omega arith)
 
 pub release_use_spec : {M : Type 1} → statement M
 release_use_spec =
     tie.close
     (tie.spec
-    invariant-loop
-    decreases-loop
-    loop-holds
-    add-clear-bit
-    rem-clear-bit
-    clear-bit-requires
-    add-k
-    loop-less
-    loop-again
-    same_length
+    invariant-loop-k
+    decreases-loop-k
+    loop-k-init
+    overflow_add-start
+    nonzero_rem-start
+    clear_bit-requires
+    overflow_add-k
+    loop-k-smaller
+    loop-k-preserved
+    shape_of-rows
     returns)

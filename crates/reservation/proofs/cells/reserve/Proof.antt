@@ -16,107 +16,107 @@ use Rattle.reservation.proofs.UseNumbers.{UseHere, use_here}
 use Rattle.reservation.proofs.cells.reserve.Statement.{statement}
 use Rattle.reservation.proofs.cells.reserve.Tie as tie
 
-abbrev invariant-loop : tie.invariant-loop
-invariant-loop file op first start interval rows₀ n j₀ rows j = (j ≤ n) × (rows ≡ over_uses (with_one row_base) interval start (op_at (loop_of file) op).uses j rows₀)
+abbrev invariant-loop-j : tie.invariant-loop-j
+invariant-loop-j file op first start interval rows₀ n j₀ rows j = (j ≤ n) × (rows ≡ over_uses (with_one row_base) interval start (op_at (loop_of file) op).uses j rows₀)
 
-abbrev decreases-loop : tie.decreases-loop
-decreases-loop file op first start interval rows₀ n j₀ rows j = n - j
+abbrev decreases-loop-j : tie.decreases-loop-j
+decreases-loop-j file op first start interval rows₀ n j₀ rows j = n - j
 
-use-count-requires : tie.Need-use-count-requires invariant-loop decreases-loop
-use-count-requires c κs = let p = c.before.before.requires in (p.0, p.1)
+use_count-n-requires : tie.Need-use_count-n-requires invariant-loop-j decreases-loop-j
+use_count-n-requires c κs = let p = c.before.before.requires in (p.0, p.1)
 
-loop-holds : tie.Need-loop-init invariant-loop decreases-loop
+loop-j-init : tie.Need-loop-j-init invariant-loop-j decreases-loop-j
 unfolding over_uses
-loop-holds c = (omega arith, refl)
+loop-j-init c = (omega arith, refl)
 
 -- the function's entry, as a turn sees it
-abbrev entry : tie.In-loop invariant-loop decreases-loop → tie.Start invariant-loop decreases-loop
+abbrev entry : tie.In-loop-j invariant-loop-j decreases-loop-j → tie.Start invariant-loop-j decreases-loop-j
 entry c = c.before.before.before.before.before
 
 -- the use whose turn it is
-abbrev now-use : tie.In-loop invariant-loop decreases-loop → Use
-now-use c = use_at (op_at (loop_of (entry c).args.file.now) (entry c).args.op) c.before.loop.j
+abbrev now-use : tie.In-loop-j invariant-loop-j decreases-loop-j → Use
+now-use c = use_at (op_at (loop_of (entry c).args.file.now) (entry c).args.op) c.before.loop-j.j
 
-here : (c : tie.In-loop invariant-loop decreases-loop)
-    → UseHere (entry c).args.file.now (entry c).args.op c.before.loop.j ((entry c).args.first + c.before.loop.j)
+here : (c : tie.In-loop-j invariant-loop-j decreases-loop-j)
+    → UseHere (entry c).args.file.now (entry c).args.op c.before.loop-j.j ((entry c).args.first + c.before.loop-j.j)
 here c =
-    use_here (entry c).args.file.now (entry c).args.op c.before.loop.j (entry c).args.first c.before.before.use_count.result
-    (entry c).requires.0 (entry c).requires.1 (entry c).requires.3 c.before.before.use_count.ensures c.loop-test.true
+    use_here (entry c).args.file.now (entry c).args.op c.before.loop-j.j (entry c).args.first c.before.before.use_count-n.result
+    (entry c).requires.0 (entry c).requires.1 (entry c).requires.3 c.before.before.use_count-n.ensures c.loop-j-test.true
 
-add-u : tie.Need-overflow-add-u invariant-loop decreases-loop
-add-u c = omega (arith, here c)
+overflow_add-u : tie.Need-overflow_add-u invariant-loop-j decreases-loop-j
+overflow_add-u c = omega (arith, here c)
 
-offset-requires : tie.Need-offset-requires invariant-loop decreases-loop
+offset-requires : tie.Need-offset-requires invariant-loop-j decreases-loop-j
 offset-requires c κs = ((entry c.before).pre.0, (here c.before).inside)
 
 -- what is read of it
-offset_is : (c : tie.After-offset invariant-loop decreases-loop) → c.offset.result ≡ (now-use c.before.before).offset
+offset_is : (c : tie.After-offset invariant-loop-j decreases-loop-j) → c.offset.result ≡ (now-use c.before.before).offset
 offset_is c = c.offset.ensures ∙ ap (λ (u : Use). u.offset) (here c.before.before).is
 
-add-reserve-use : tie.Need-overflow-add-reserve-use invariant-loop decreases-loop
-add-reserve-use c =
+overflow_add-start : tie.Need-overflow_add-start invariant-loop-j decreases-loop-j
+overflow_add-start c =
     let s = entry c.before.before in
-    let ok = ((accepted_ok s.args.file.now s.pre.0).op_ok s.args.op s.pre.1).each c.before.before.before.loop.j (omega arith) in
+    let ok = ((accepted_ok s.args.file.now s.pre.0).op_ok s.args.op s.pre.1).each c.before.before.before.loop-j.j (omega arith) in
     omega (arith, offset_is c, ok, s.pre.2)
 
-duration-requires : tie.Need-duration-requires invariant-loop decreases-loop
+duration-requires : tie.Need-duration-requires invariant-loop-j decreases-loop-j
 duration-requires c κs = ((entry c.before.before).pre.0, (here c.before.before).inside)
 
-slot-requires : tie.Need-slot-requires invariant-loop decreases-loop
+slot-requires : tie.Need-slot-requires invariant-loop-j decreases-loop-j
 slot-requires c κs = ((entry c.before.before.before).pre.0, (here c.before.before.before).inside)
 
-duration_is : (c : tie.After-slot invariant-loop decreases-loop) → c.before.duration.result ≡ (now-use c.before.before.before.before).duration
+duration_is : (c : tie.After-slot invariant-loop-j decreases-loop-j) → c.before.duration.result ≡ (now-use c.before.before.before.before).duration
 duration_is c = c.before.duration.ensures ∙ ap (λ (u : Use). u.duration) (here c.before.before.before.before).is
 
-slot_is : (c : tie.After-slot invariant-loop decreases-loop) → c.slot.result ≡ (now-use c.before.before.before.before).slot
+slot_is : (c : tie.After-slot invariant-loop-j decreases-loop-j) → c.slot.result ≡ (now-use c.before.before.before.before).slot
 slot_is c = c.slot.ensures ∙ ap (λ (u : Use). u.slot) (here c.before.before.before.before).is
 
-reserve-use-requires : tie.Need-reserve-use-requires invariant-loop decreases-loop
-reserve-use-requires c κs =
+reserve_use-requires : tie.Need-reserve_use-requires invariant-loop-j decreases-loop-j
+reserve_use-requires c κs =
     let i = c.before.before.before.before in
     let s = entry i in
     let p = op_at (loop_of s.args.file.now) s.args.op in
-    rw (i.before.loop.invariant.1, offset_is c.before.before, duration_is c, slot_is c)
-    (uses_turn (with_one row_base) 0 s.args.rows.now s.args.interval s.args.start p with_other ((accepted_ok s.args.file.now s.pre.0).op_ok s.args.op s.pre.1)
-    s.pre.2 i.before.loop.j i.before.loop.j (le_refl i.before.loop.j) (omega (arith, i.before.before.use_count.ensures)))
+    rw (i.before.loop-j.invariant.1, offset_is c.before.before, duration_is c, slot_is c)
+    (uses_turn (with_one row_base) 0 s.args.rows-1.now s.args.interval s.args.start p with_other ((accepted_ok s.args.file.now s.pre.0).op_ok s.args.op s.pre.1)
+    s.pre.2 i.before.loop-j.j i.before.loop-j.j (le_refl i.before.loop-j.j) (omega (arith, i.before.before.use_count-n.ensures)))
 
-add-j : tie.Need-overflow-add-j invariant-loop decreases-loop
-add-j c = omega (arith, here c.before.before.before.before.before.before.before)
+overflow_add-j : tie.Need-overflow_add-j invariant-loop-j decreases-loop-j
+overflow_add-j c = omega (arith, here c.before.before.before.before.before.before.before)
 
-loop-less : tie.Need-loop-smaller invariant-loop decreases-loop
-loop-less c = omega arith
+loop-j-smaller : tie.Need-loop-j-smaller invariant-loop-j decreases-loop-j
+loop-j-smaller c = omega arith
 
-loop-again : tie.Need-loop-preserved invariant-loop decreases-loop
+loop-j-preserved : tie.Need-loop-j-preserved invariant-loop-j decreases-loop-j
 unfolding over_uses
-loop-again c =
+loop-j-preserved c =
     let t = c.before.before.before in
     let b = t.before.before.before.before.before in
-    (omega arith, rw (c.before.before.reserve-use.ensures, b.loop.invariant.1, offset_is t.before.before, duration_is t, slot_is t, add-one b.loop.j))
+    (omega arith, rw (c.before.before.reserve_use.ensures, b.loop-j.invariant.1, offset_is t.before.before, duration_is t, slot_is t, add-one b.loop-j.j))
 
-same_length : tie.Need-same-length invariant-loop decreases-loop
-same_length c = rw (c.before.loop.invariant.1, length_uses)
+shape_of-rows : tie.Need-shape_of-rows invariant-loop-j decreases-loop-j
+shape_of-rows c = rw (c.before.loop-j.invariant.1, length_uses)
 
-returns : tie.Need-returns invariant-loop decreases-loop
+returns : tie.Need-returns invariant-loop-j decreases-loop-j
 returns c =
-    let e : c.before.loop.j ≡ c.before.before.use_count.result = omega arith in
-    rw (← c.before.before.use_count.ensures, ← e) c.before.loop.invariant.1
+    let e : c.before.loop-j.j ≡ c.before.before.use_count-n.result = omega arith in
+    rw (← c.before.before.use_count-n.ensures, ← e) c.before.loop-j.invariant.1
 
 pub reserve_spec : {M : Type 1} → statement M
 reserve_spec =
     tie.close
     (tie.spec
-    invariant-loop
-    decreases-loop
-    use-count-requires
-    loop-holds
-    add-u
+    invariant-loop-j
+    decreases-loop-j
+    use_count-n-requires
+    loop-j-init
+    overflow_add-u
     offset-requires
-    add-reserve-use
+    overflow_add-start
     duration-requires
     slot-requires
-    reserve-use-requires
-    add-j
-    loop-less
-    loop-again
-    same_length
+    reserve_use-requires
+    overflow_add-j
+    loop-j-smaller
+    loop-j-preserved
+    shape_of-rows
     returns)

@@ -8,26 +8,26 @@ use Rattle.reservation.proofs.Bits.{or_shl}
 use Rattle.reservation.proofs.cells.set_bit.Statement.{statement}
 use Rattle.reservation.proofs.cells.set_bit.Tie as tie
 
-mul-rows : tie.Need-overflow-mul-rows
-mul-rows c = search rules
+offset_bounds-rows-row : tie.Need-offset_bounds-rows-row
+offset_bounds-rows-row c = search rules
 
-slice-read-rows : tie.Need-slice-read-rows
-slice-read-rows c = search rules
+bounds-rows-row : tie.Need-bounds-rows-row
+bounds-rows-row c = search rules
 
-sub-rows : tie.Need-overflow-sub-rows
-sub-rows c = search rules
+overflow_sub-rows : tie.Need-overflow_sub-rows
+overflow_sub-rows c = search rules
 
-shl-rows : tie.Need-overflow-shl-rows
-shl-rows c = search rules
+overflow_shl-rows : tie.Need-overflow_shl-rows
+overflow_shl-rows c = search rules
 
-mul-rows-2 : tie.Need-overflow-mul-rows-2
-mul-rows-2 c = search rules
+offset_bounds-rows-row-2 : tie.Need-offset_bounds-rows-row-2
+offset_bounds-rows-row-2 c = search rules
 
-slice-write-rows : tie.Need-slice-write-rows
-slice-write-rows c = search rules
+bounds-rows-row-2 : tie.Need-bounds-rows-row-2
+bounds-rows-row-2 c = search rules
 
-same_length : tie.Need-same-length
-same_length c = search rules
+shape_of-rows : tie.Need-shape_of-rows
+shape_of-rows c = search rules
 
 returns : tie.Need-returns
 returns c =
@@ -39,11 +39,11 @@ pub set_bit_spec : {M : Type 1} → statement M
 set_bit_spec =
     tie.close
     (tie.spec
-    mul-rows
-    slice-read-rows
-    sub-rows
-    shl-rows
-    mul-rows-2
-    slice-write-rows
-    same_length
+    offset_bounds-rows-row
+    bounds-rows-row
+    overflow_sub-rows
+    overflow_shl-rows
+    offset_bounds-rows-row-2
+    bounds-rows-row-2
+    shape_of-rows
     returns)

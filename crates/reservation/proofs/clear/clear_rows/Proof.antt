@@ -9,59 +9,59 @@ use Rattle.reservation.proofs.Stores.{set_next}
 use Rattle.reservation.proofs.clear.clear_rows.Statement.{statement}
 use Rattle.reservation.proofs.clear.clear_rows.Tie as tie
 
-abbrev invariant-loop : tie.invariant-loop
-invariant-loop rows₀ n i₀ rows i = (i ≤ n) × (rows ≡ replicate i 0 ++ drop i rows₀) × (length rows ≡ length rows₀)
+abbrev invariant-loop-i : tie.invariant-loop-i
+invariant-loop-i rows₀ n i₀ rows i = (i ≤ n) × (rows ≡ replicate i 0 ++ drop i rows₀) × (length rows ≡ length rows₀)
 
-abbrev decreases-loop : tie.decreases-loop
-decreases-loop rows₀ n i₀ rows i = n - i
+abbrev decreases-loop-i : tie.decreases-loop-i
+decreases-loop-i rows₀ n i₀ rows i = n - i
 
-loop-holds : tie.Need-loop-init invariant-loop decreases-loop
-loop-holds c = (omega arith, refl, refl)
+loop-i-init : tie.Need-loop-i-init invariant-loop-i decreases-loop-i
+loop-i-init c = (omega arith, refl, refl)
 
-mul-rows : tie.Need-overflow-mul-rows invariant-loop decreases-loop
-mul-rows c = omega arith
+offset_bounds-rows-i : tie.Need-offset_bounds-rows-i invariant-loop-i decreases-loop-i
+offset_bounds-rows-i c = omega arith
 
-slice-write-rows : tie.Need-slice-write-rows invariant-loop decreases-loop
-slice-write-rows c = omega arith
+bounds-rows-i : tie.Need-bounds-rows-i invariant-loop-i decreases-loop-i
+bounds-rows-i c = omega arith
 
-add-i : tie.Need-overflow-add-i invariant-loop decreases-loop
-add-i c = omega arith
+overflow_add-i : tie.Need-overflow_add-i invariant-loop-i decreases-loop-i
+overflow_add-i c = omega arith
 
-loop-less : tie.Need-loop-smaller invariant-loop decreases-loop
-loop-less c = omega arith
+loop-i-smaller : tie.Need-loop-i-smaller invariant-loop-i decreases-loop-i
+loop-i-smaller c = omega arith
 
-loop-again : tie.Need-loop-preserved invariant-loop decreases-loop
-loop-again c =
+loop-i-preserved : tie.Need-loop-i-preserved invariant-loop-i decreases-loop-i
+loop-i-preserved c =
     let g = c.before in
     let old = g.before.args.rows.now in
-    let j = g.loop.i in (
+    let j = g.loop-i.i in (
       omega arith,
-      ap (λ (l : List ℕ). set l j 0) g.loop.invariant.1
+      ap (λ (l : List ℕ). set l j 0) g.loop-i.invariant.1
           ∙ set_next (replicate j 0) old j 0 (length-replicate j 0) (omega arith)
           ∙ ap (λ (l : List ℕ). l ++ drop (j + 1) old) (replicate-append-replicate j 1 0),
-      length-set g.loop.rows j 0 ∙ g.loop.invariant.2,
+      length-set g.loop-i.rows j 0 ∙ g.loop-i.invariant.2,
     )
 
-same_length : tie.Need-same-length invariant-loop decreases-loop
-same_length c = omega arith
+shape_of-rows : tie.Need-shape_of-rows invariant-loop-i decreases-loop-i
+shape_of-rows c = omega arith
 
-returns : tie.Need-returns invariant-loop decreases-loop
+returns : tie.Need-returns invariant-loop-i decreases-loop-i
 returns c =
     let a = c.before.before.args in
-    let done : c.before.loop.i ≡ a.n = omega arith in
-    c.before.loop.invariant.1 ∙ ap (λ (k : ℕ). replicate k 0 ++ drop k a.rows.now) done
+    let done : c.before.loop-i.i ≡ a.n = omega arith in
+    c.before.loop-i.invariant.1 ∙ ap (λ (k : ℕ). replicate k 0 ++ drop k a.rows.now) done
 
 pub clear_rows_spec : {M : Type 1} → statement M
 clear_rows_spec =
     tie.close
     (tie.spec
-    invariant-loop
-    decreases-loop
-    loop-holds
-    mul-rows
-    slice-write-rows
-    add-i
-    loop-less
-    loop-again
-    same_length
+    invariant-loop-i
+    decreases-loop-i
+    loop-i-init
+    offset_bounds-rows-i
+    bounds-rows-i
+    overflow_add-i
+    loop-i-smaller
+    loop-i-preserved
+    shape_of-rows
     returns)

@@ -33,11 +33,11 @@ lag c = c.before.before.args.interval * c.distance.result
 lag_small : (c : tie.After-distance) → lag c ≤ 4096 * 15
 lag_small c = lag_le c.before.before.args.interval (dep_ok c.before.before) c.before.before.requires.4 c.distance.ensures
 
-mul-lag : tie.Need-overflow-mul-lag
-mul-lag c = omega (arith, lag_small c)
+overflow_mul-lag : tie.Need-overflow_mul-lag
+overflow_mul-lag c = omega (arith, lag_small c)
 
-cast-due : tie.Need-overflow-cast-due
-cast-due c = search rules
+overflow_cast-due : tie.Need-overflow_cast-due
+overflow_cast-due c = search rules
 
 delay-requires : tie.Need-delay-requires
 delay-requires c κs = search rules
@@ -48,29 +48,29 @@ start c = c.before.before.before
 -- the two sides as differences of naturals
 due_is : (c : tie.After-delay)
     → Is (to_z w32 (start c).args.from +ℤ to_z w32 (of_z w32 c.delay.result)) ((start c).args.from + plus (dep (start c)).delay) (0 + minus (dep (start c)).delay)
-due_is c = is_add (is_cast w32 (start c).args.from (omega arith)) (is_got w32 c.delay.type-inv c.delay.ensures (parts _))
+due_is c = is_add (is_cast w32 (start c).args.from (omega arith)) (is_got w32 c.delay.type_inv c.delay.ensures (parts _))
 
-add-due : tie.Need-overflow-add-due
-add-due c =
+overflow_add-due : tie.Need-overflow_add-due
+overflow_add-due c =
     is_fits w32 (due_is c) (omega (arith, delay_late (dep_ok (start c)))) (omega (arith, delay_early (dep_ok (start c))))
 
-cast-result : tie.Need-overflow-cast-result
-cast-result c = search rules
+overflow_cast-result : tie.Need-overflow_cast-result
+overflow_cast-result c = search rules
 
-cast-result-2 : tie.Need-overflow-cast-result-2
-cast-result-2 c = omega (arith, lag_small c.before)
+overflow_cast-result-2 : tie.Need-overflow_cast-result-2
+overflow_cast-result-2 c = omega (arith, lag_small c.before)
 
 to_is : (c : tie.After-delay) → Is (to_z w32 (start c).args.to +ℤ to_z w32 (lag c.before)) ((start c).args.to + lag c.before) (0 + 0)
 to_is c = is_add (is_cast w32 (start c).args.to (omega arith)) (is_cast w32 (lag c.before) (omega (arith, lag_small c.before)))
 
-add-result : tie.Need-overflow-add-result
-add-result c = is_fits w32 (to_is c) (omega (arith, lag_small c.before)) (omega arith)
+overflow_add-result : tie.Need-overflow_add-result
+overflow_add-result c = is_fits w32 (to_is c) (omega (arith, lag_small c.before)) (omega arith)
 
 returns : tie.Need-returns
 returns c =
     let a = (start c).args in
     let d = (dep (start c)).delay in
-    le_as (a.from + plus d) (a.to + lag c.before + minus d) (is_back w32 (add-due c) (due_is c)) (is_back w32 (add-result c) (to_is c)) (omega arith)
+    le_as (a.from + plus d) (a.to + lag c.before + minus d) (is_back w32 (overflow_add-due c) (due_is c)) (is_back w32 (overflow_add-result c) (to_is c)) (omega arith)
     ∙ holds_lag a.interval (dep (start c)) a.from a.to c.before.distance.ensures
 
 pub dep_holds_spec : {M : Type 1} → statement M
@@ -78,11 +78,11 @@ dep_holds_spec =
     tie.close
     (tie.spec
     distance-requires
-    mul-lag
-    cast-due
+    overflow_mul-lag
+    overflow_cast-due
     delay-requires
-    add-due
-    cast-result
-    cast-result-2
-    add-result
+    overflow_add-due
+    overflow_cast-result
+    overflow_cast-result-2
+    overflow_add-result
     returns)

@@ -8,58 +8,58 @@ use Rattle.reservation.proofs.Breaches.{NoneBroken, none_begin, none_next, breac
 use Rattle.reservation.proofs.deps.first_own_broken.Statement.{statement}
 use Rattle.reservation.proofs.deps.first_own_broken.Tie as tie
 
-abbrev invariant-loop : tie.invariant-loop
-invariant-loop file op start interval m e₀ e = NoneBroken (loop_of file) interval nowhere op start e
+abbrev invariant-loop-e : tie.invariant-loop-e
+invariant-loop-e file op start interval m e₀ e = NoneBroken (loop_of file) interval nowhere op start e
 
-abbrev decreases-loop : tie.decreases-loop
-decreases-loop file op start interval m e₀ e = m - e
+abbrev decreases-loop-e : tie.decreases-loop-e
+decreases-loop-e file op start interval m e₀ e = m - e
 
-dep-count-requires : tie.Need-dep-count-requires invariant-loop decreases-loop
-dep-count-requires c κs = c.before.requires.0
+dep_count-m-requires : tie.Need-dep_count-m-requires invariant-loop-e decreases-loop-e
+dep_count-m-requires c κs = c.before.requires.0
 
-loop-holds : tie.Need-loop-init invariant-loop decreases-loop
-loop-holds c = none_begin _ _ _ _ _
+loop-e-init : tie.Need-loop-e-init invariant-loop-e decreases-loop-e
+loop-e-init c = none_begin _ _ _ _ _
 
 -- the function's entry, as a turn sees it
-abbrev entry : tie.In-loop invariant-loop decreases-loop → tie.Start invariant-loop decreases-loop
+abbrev entry : tie.In-loop-e invariant-loop-e decreases-loop-e → tie.Start invariant-loop-e decreases-loop-e
 entry c = c.before.before.before.before
 
 -- the dependence is there
-below : (c : tie.In-loop invariant-loop decreases-loop) → c.before.loop.e < length (loop_of (entry c).args.file.now).deps
-below c = omega (arith, c.before.before.dep_count.ensures)
+below : (c : tie.In-loop-e invariant-loop-e decreases-loop-e) → c.before.loop-e.e < length (loop_of (entry c).args.file.now).deps
+below c = omega (arith, c.before.before.dep_count-m.ensures)
 
-breaks-itself-requires : tie.Need-breaks-itself-requires invariant-loop decreases-loop
-breaks-itself-requires c κs = let p = (entry c).requires in (p.0, below c, p.1, p.2)
+breaks_itself-requires : tie.Need-breaks_itself-requires invariant-loop-e decreases-loop-e
+breaks_itself-requires c κs = let p = (entry c).requires in (p.0, below c, p.1, p.2)
 
-returns : tie.Need-returns invariant-loop decreases-loop
-returns c =
+returns-then-breaks_itself : tie.Need-returns-then-breaks_itself invariant-loop-e decreases-loop-e
+returns-then-breaks_itself c =
     let b = c.before in
     let i = b.before in
-    breach_at i.before.loop.invariant b.breaks-itself.ensures c.if1.true (below i)
+    breach_at i.before.loop-e.invariant b.breaks_itself.ensures c.if-breaks_itself.true (below i)
 
-add-e : tie.Need-overflow-add-e invariant-loop decreases-loop
-add-e c = omega arith
+overflow_add-e : tie.Need-overflow_add-e invariant-loop-e decreases-loop-e
+overflow_add-e c = omega arith
 
-loop-less : tie.Need-loop-smaller invariant-loop decreases-loop
-loop-less c = omega arith
+loop-e-smaller : tie.Need-loop-e-smaller invariant-loop-e decreases-loop-e
+loop-e-smaller c = omega arith
 
-loop-again : tie.Need-loop-preserved invariant-loop decreases-loop
-loop-again c = let b = c.before in none_next b.before.before.loop.invariant b.breaks-itself.ensures c.if1.false
+loop-e-preserved : tie.Need-loop-e-preserved invariant-loop-e decreases-loop-e
+loop-e-preserved c = let b = c.before in none_next b.before.before.loop-e.invariant b.breaks_itself.ensures c.if-breaks_itself.false
 
-returns-2 : tie.Need-returns-2 invariant-loop decreases-loop
-returns-2 c = breach_none c.before.loop.invariant (omega (arith, c.before.before.dep_count.ensures))
+returns : tie.Need-returns invariant-loop-e decreases-loop-e
+returns c = breach_none c.before.loop-e.invariant (omega (arith, c.before.before.dep_count-m.ensures))
 
 pub first_own_broken_spec : {M : Type 1} → statement M
 first_own_broken_spec =
     tie.close
     (tie.spec
-    invariant-loop
-    decreases-loop
-    dep-count-requires
-    loop-holds
-    breaks-itself-requires
-    returns
-    add-e
-    loop-less
-    loop-again
-    returns-2)
+    invariant-loop-e
+    decreases-loop-e
+    dep_count-m-requires
+    loop-e-init
+    breaks_itself-requires
+    returns-then-breaks_itself
+    overflow_add-e
+    loop-e-smaller
+    loop-e-preserved
+    returns)

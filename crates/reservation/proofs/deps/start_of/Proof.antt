@@ -6,23 +6,23 @@ use Rattle.model.proofs.Firsts.{get_or_within}
 use Rattle.reservation.proofs.deps.start_of.Statement.{statement}
 use Rattle.reservation.proofs.deps.start_of.Tie as tie
 
+returns-then-other-op : tie.Need-returns-then-other-op
+returns-then-other-op c = rw (eq-eqb c.before.args.other c.before.args.op c.if-other-op.true)
+
+offset_bounds-starts-other : tie.Need-offset_bounds-starts-other
+offset_bounds-starts-other c = search rules
+
+bounds-starts-other : tie.Need-bounds-starts-other
+bounds-starts-other c = search rules
+
+overflow_cast-result : tie.Need-overflow_cast-result
+overflow_cast-result c = omega (arith, c.shared_slice_known-1.given c.before.before.args.other)
+
 returns : tie.Need-returns
-returns c = rw (eq-eqb c.before.args.other c.before.args.op c.if1.true)
-
-mul-result : tie.Need-overflow-mul-result
-mul-result c = search rules
-
-shared-slice-read-result : tie.Need-shared-slice-read-result
-shared-slice-read-result c = search rules
-
-cast-result : tie.Need-overflow-cast-result
-cast-result c = omega (arith, c.shared-slice-known.given c.before.before.args.other)
-
-returns-2 : tie.Need-returns-2
-returns-2 c =
+returns c =
     let a = c.before.before.args in
-    rw (ne_eqb a.other a.op c.before.if1.false) (get_or_within a.starts.now a.other 0 65535 c.before.before.requires)
+    rw (ne_eqb a.other a.op c.before.if-other-op.false) (get_or_within a.starts.now a.other 0 65535 c.before.before.requires)
 
 pub start_of_spec : {M : Type 1} → statement M
 start_of_spec =
-    tie.close (tie.spec returns mul-result shared-slice-read-result cast-result returns-2)
+    tie.close (tie.spec returns-then-other-op offset_bounds-starts-other bounds-starts-other overflow_cast-result returns)

@@ -11,69 +11,69 @@ use Rattle.reservation.proofs.Stores.{set_next}
 use Rattle.reservation.proofs.memory.write_list.Statement.{statement}
 use Rattle.reservation.proofs.memory.write_list.Tie as tie
 
-abbrev invariant-loop : tie.invariant-loop
-invariant-loop list₀ starts n i₀ list i = (i ≤ n) × (list ≡ take i starts ++ drop i list₀) × (length list ≡ length list₀)
+abbrev invariant-loop-i : tie.invariant-loop-i
+invariant-loop-i list₀ starts n i₀ list i = (i ≤ n) × (list ≡ take i starts ++ drop i list₀) × (length list ≡ length list₀)
 
-abbrev decreases-loop : tie.decreases-loop
-decreases-loop list₀ starts n i₀ list i = n - i
+abbrev decreases-loop-i : tie.decreases-loop-i
+decreases-loop-i list₀ starts n i₀ list i = n - i
 
-loop-holds : tie.Need-loop-init invariant-loop decreases-loop
-loop-holds c = (omega arith, refl, refl)
+loop-i-init : tie.Need-loop-i-init invariant-loop-i decreases-loop-i
+loop-i-init c = (omega arith, refl, refl)
 
-mul-list : tie.Need-overflow-mul-list invariant-loop decreases-loop
-mul-list c = omega arith
+offset_bounds-starts-i : tie.Need-offset_bounds-starts-i invariant-loop-i decreases-loop-i
+offset_bounds-starts-i c = omega arith
 
-shared-slice-read-list : tie.Need-shared-slice-read-list invariant-loop decreases-loop
-shared-slice-read-list c = omega arith
+bounds-starts-i : tie.Need-bounds-starts-i invariant-loop-i decreases-loop-i
+bounds-starts-i c = omega arith
 
-mul-list-2 : tie.Need-overflow-mul-list-2 invariant-loop decreases-loop
-mul-list-2 c = omega arith
+offset_bounds-list-i : tie.Need-offset_bounds-list-i invariant-loop-i decreases-loop-i
+offset_bounds-list-i c = omega arith
 
-slice-write-list : tie.Need-slice-write-list invariant-loop decreases-loop
-slice-write-list c = omega arith
+bounds-list-i : tie.Need-bounds-list-i invariant-loop-i decreases-loop-i
+bounds-list-i c = omega arith
 
-add-i : tie.Need-overflow-add-i invariant-loop decreases-loop
-add-i c = omega arith
+overflow_add-i : tie.Need-overflow_add-i invariant-loop-i decreases-loop-i
+overflow_add-i c = omega arith
 
-loop-less : tie.Need-loop-smaller invariant-loop decreases-loop
-loop-less c = omega arith
+loop-i-smaller : tie.Need-loop-i-smaller invariant-loop-i decreases-loop-i
+loop-i-smaller c = omega arith
 
-loop-again : tie.Need-loop-preserved invariant-loop decreases-loop
-loop-again c =
+loop-i-preserved : tie.Need-loop-i-preserved invariant-loop-i decreases-loop-i
+loop-i-preserved c =
     let g = c.before.before in
     let old = g.before.args.list.now in
     let starts = g.before.args.starts.now in
-    let j = g.loop.i in
+    let j = g.loop-i.i in
     let x = get_or starts j 0 in (
       omega arith,
-      ap (λ (l : List ℕ). set l j x) g.loop.invariant.1
+      ap (λ (l : List ℕ). set l j x) g.loop-i.invariant.1
           ∙ set_next (take j starts) old j x (length-take-le j starts (omega arith)) (omega arith)
           ∙ ap (λ (l : List ℕ). l ++ drop (j + 1) old) (sym (take-suc starts j 0 (omega arith)) ∙ ap (λ (k : ℕ). take k starts) (sym (add-one j))),
-      length-set g.loop.list j x ∙ g.loop.invariant.2,
+      length-set g.loop-i.list j x ∙ g.loop-i.invariant.2,
     )
 
-same_length : tie.Need-same-length invariant-loop decreases-loop
-same_length c = omega arith
+shape_of-list : tie.Need-shape_of-list invariant-loop-i decreases-loop-i
+shape_of-list c = omega arith
 
-returns : tie.Need-returns invariant-loop decreases-loop
+returns : tie.Need-returns invariant-loop-i decreases-loop-i
 returns c =
     let a = c.before.before.args in
-    let done : c.before.loop.i ≡ a.n = omega arith in
-    c.before.loop.invariant.1 ∙ ap (λ (k : ℕ). take k a.starts.now ++ drop k a.list.now) done
+    let done : c.before.loop-i.i ≡ a.n = omega arith in
+    c.before.loop-i.invariant.1 ∙ ap (λ (k : ℕ). take k a.starts.now ++ drop k a.list.now) done
 
 pub write_list_spec : {M : Type 1} → statement M
 write_list_spec =
     tie.close
     (tie.spec
-    invariant-loop
-    decreases-loop
-    loop-holds
-    mul-list
-    shared-slice-read-list
-    mul-list-2
-    slice-write-list
-    add-i
-    loop-less
-    loop-again
-    same_length
+    invariant-loop-i
+    decreases-loop-i
+    loop-i-init
+    offset_bounds-starts-i
+    bounds-starts-i
+    offset_bounds-list-i
+    bounds-list-i
+    overflow_add-i
+    loop-i-smaller
+    loop-i-preserved
+    shape_of-list
     returns)

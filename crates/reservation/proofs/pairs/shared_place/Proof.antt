@@ -13,72 +13,72 @@ use Rattle.reservation.proofs.TakenCells.{taken_in, free_at, cycles_none, cycles
 use Rattle.reservation.proofs.pairs.shared_place.Statement.{statement}
 use Rattle.reservation.proofs.pairs.shared_place.Tie as tie
 
-abbrev invariant-loop : tie.invariant-loop
-invariant-loop file a from b to interval k₀ k =
+abbrev invariant-loop-k : tie.invariant-loop-k
+invariant-loop-k file a from b to interval k₀ k =
     (k ≤ 16) × ((i : ℕ) → i < k → taken_in single (used_by interval (op_at (loop_of file) a) from) false interval (op_at (loop_of file) b) to i ≡ none)
 
-abbrev decreases-loop : tie.decreases-loop
-decreases-loop file a from b to interval k₀ k = 16 - k
+abbrev decreases-loop-k : tie.decreases-loop-k
+decreases-loop-k file a from b to interval k₀ k = 16 - k
 
-loop-holds : tie.Need-loop-init invariant-loop decreases-loop
-loop-holds c = (omega arith, λ i l. absurd (omega arith))
+loop-k-init : tie.Need-loop-k-init invariant-loop-k decreases-loop-k
+loop-k-init c = (omega arith, λ i l. absurd (omega arith))
 
-abbrev start : tie.At-loop invariant-loop decreases-loop → tie.Start invariant-loop decreases-loop
+abbrev start : tie.At-loop-k invariant-loop-k decreases-loop-k → tie.Start invariant-loop-k decreases-loop-k
 start c = c.before.before
 
 -- a turn's cycle is one of the 16
-early : (c : tie.In-loop invariant-loop decreases-loop) → c.before.loop.k < 16
+early : (c : tie.In-loop-k invariant-loop-k decreases-loop-k) → c.before.loop-k.k < 16
 early c = omega arith
 
-shared-in-requires : tie.Need-shared-in-requires invariant-loop decreases-loop
-shared-in-requires c κs = let p = (start c.before).pre in (p.0, p.1, p.2, p.3, p.4, early c, p.5, p.6)
+shared_in-place-requires : tie.Need-shared_in-place-requires invariant-loop-k decreases-loop-k
+shared_in-place-requires c κs = let p = (start c.before).pre in (p.0, p.1, p.2, p.3, p.4, early c, p.5, p.6)
 
-enum_told : tie.Need-enum-told invariant-loop decreases-loop
-enum_told c = omega arith
+enum_told-1 : tie.Need-enum_told-1 invariant-loop-k decreases-loop-k
+enum_told-1 c = omega arith
 
-enum-told-2 : tie.Need-enum-told-2 invariant-loop decreases-loop
-enum-told-2 c = omega arith
+enum_told-in_default : tie.Need-enum_told-in_default invariant-loop-k decreases-loop-k
+enum_told-in_default c = omega arith
 
-returns : tie.Need-returns invariant-loop decreases-loop
-returns c =
+returns-in_default : tie.Need-returns-in_default invariant-loop-k decreases-loop-k
+returns-in_default c =
     let b = c.before.before in
     let h = b.before.before in
     let a = (start h).args in
     let l = loop_of a.file.now in
-    cycles_found single (used_by a.interval (op_at l a.a) a.from) false a.interval (op_at l a.b) a.to h.loop.k b.shared-in.result _ _
-    (early b.before) h.loop.invariant.1 b.shared-in.ensures c.enum-told2.given.1
+    cycles_found single (used_by a.interval (op_at l a.a) a.from) false a.interval (op_at l a.b) a.to h.loop-k.k b.shared_in-place.result _ _
+    (early b.before) h.loop-k.invariant.1 b.shared_in-place.ensures c.enum_told-in_default-1.given.1
 
-add-k : tie.Need-overflow-add-k invariant-loop decreases-loop
-add-k c = omega arith
+overflow_add-k : tie.Need-overflow_add-k invariant-loop-k decreases-loop-k
+overflow_add-k c = omega arith
 
-loop-less : tie.Need-loop-smaller invariant-loop decreases-loop
-loop-less c = omega arith
+loop-k-smaller : tie.Need-loop-k-smaller invariant-loop-k decreases-loop-k
+loop-k-smaller c = omega arith
 
-loop-again : tie.Need-loop-preserved invariant-loop decreases-loop
-loop-again c =
+loop-k-preserved : tie.Need-loop-k-preserved invariant-loop-k decreases-loop-k
+loop-k-preserved c =
     let b = c.before.before in
     let h = b.before.before in
-    (omega (arith, early b.before), below_more _ h.loop.k h.loop.invariant.1 (free_at b.shared-in.result h.loop.k _ b.shared-in.ensures c.enum_told.given.1))
+    (omega (arith, early b.before), below_more _ h.loop-k.k h.loop-k.invariant.1 (free_at b.shared_in-place.result h.loop-k.k _ b.shared_in-place.ensures c.enum_told-1.given.1))
 
-returns-2 : tie.Need-returns-2 invariant-loop decreases-loop
-returns-2 c =
+returns : tie.Need-returns invariant-loop-k decreases-loop-k
+returns c =
     let h = c.before in
     let a = (start h).args in
     let l = loop_of a.file.now in
-    sym (cycles_none single (used_by a.interval (op_at l a.a) a.from) false a.interval (op_at l a.b) a.to (λ k l. h.loop.invariant.1 k (omega arith)))
+    sym (cycles_none single (used_by a.interval (op_at l a.a) a.from) false a.interval (op_at l a.b) a.to (λ k l. h.loop-k.invariant.1 k (omega arith)))
 
 pub shared_place_spec : {M : Type 1} → statement M
 shared_place_spec =
     tie.close
     (tie.spec
-    invariant-loop
-    decreases-loop
-    loop-holds
-    shared-in-requires
-    enum_told
-    enum-told-2
-    returns
-    add-k
-    loop-less
-    loop-again
-    returns-2)
+    invariant-loop-k
+    decreases-loop-k
+    loop-k-init
+    shared_in-place-requires
+    enum_told-1
+    enum_told-in_default
+    returns-in_default
+    overflow_add-k
+    loop-k-smaller
+    loop-k-preserved
+    returns)

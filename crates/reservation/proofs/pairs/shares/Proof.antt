@@ -16,27 +16,27 @@ use Rattle.reservation.proofs.pairs.shares.Tie as tie
 abbrev use-of : tie.Start → Use
 use-of s = get_or (all_uses (loop_of s.args.file.now)) s.args.u no_use
 
-abbrev start : tie.After-covers-cycle → tie.Start
+abbrev start : tie.After-covers_cycle → tie.Start
 start c = c.before.before
 
-covers-cycle-requires : tie.Need-covers-cycle-requires
-covers-cycle-requires c κs = search rules
+covers_cycle-requires : tie.Need-covers_cycle-requires
+covers_cycle-requires c κs = search rules
 
-returns : tie.Need-returns
-returns c = let t = c.before in rw (sym t.covers-cycle.ensures ∙ not-true t.covers-cycle.result c.if1.true)
+returns-then-not-covers_cycle : tie.Need-returns-then-not-covers_cycle
+returns-then-not-covers_cycle c = let t = c.before in rw (sym t.covers_cycle.ensures ∙ not-true t.covers_cycle.result c.if-not-covers_cycle.true)
 
 -- past the test the use covers the cycle
-covered : (c : tie.Else1) → let s = start c.before in covers s.args.k (use-of s) ≡ true
-covered c = let t = c.before in sym t.covers-cycle.ensures ∙ not-false t.covers-cycle.result c.if1.false
+covered : (c : tie.Else-not-covers_cycle) → let s = start c.before in covers s.args.k (use-of s) ≡ true
+covered c = let t = c.before in sym t.covers_cycle.ensures ∙ not-false t.covers_cycle.result c.if-not-covers_cycle.false
 
 slot-requires : tie.Need-slot-requires
 slot-requires c κs = search rules
 
-add-covers : tie.Need-overflow-add-covers
-add-covers c = search rules
+overflow_add-to : tie.Need-overflow_add-to
+overflow_add-to c = search rules
 
-rem-covers : tie.Need-nonzero-rem-covers
-rem-covers c = search rules
+nonzero_rem-to : tie.Need-nonzero_rem-to
+nonzero_rem-to c = search rules
 
 covers-requires : tie.Need-covers-requires
 covers-requires c κs =
@@ -44,8 +44,8 @@ covers-requires c κs =
     let p = s.pre in
     (p.0, p.1, p.3, mod-lt (s.args.to + s.args.k) {m = s.args.interval} p.6, p.7)
 
-returns-2 : tie.Need-returns-2
-returns-2 c =
+returns : tie.Need-returns
+returns c =
     let e = c.before.before in
     let s = start e.before in
     let a = s.args in
@@ -55,10 +55,10 @@ pub shares_spec : {M : Type 1} → statement M
 shares_spec =
     tie.close
     (tie.spec
-    covers-cycle-requires
-    returns
+    covers_cycle-requires
+    returns-then-not-covers_cycle
     slot-requires
-    add-covers
-    rem-covers
+    overflow_add-to
+    nonzero_rem-to
     covers-requires
-    returns-2)
+    returns)

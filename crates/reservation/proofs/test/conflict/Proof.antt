@@ -18,112 +18,112 @@ use Rattle.reservation.proofs.TakenCells.{cycles_most, cycle_free, place_free, p
 use Rattle.reservation.proofs.test.conflict.Statement.{statement}
 use Rattle.reservation.proofs.test.conflict.Tie as tie
 
-abbrev invariant-loop : tie.invariant-loop
-invariant-loop file op first start interval rows most₀ k₀ most k =
+abbrev invariant-loop-k : tie.invariant-loop-k
+invariant-loop-k file op first start interval rows most₀ k₀ most k =
     (most ≤ 16) × (most ≤ k → cycles_of (op_at (loop_of file) op).uses ≤ k)
     × ((i : ℕ) → i < k → met_in row_base interval (row_at interval rows start i) i (op_at (loop_of file) op).uses ≡ none)
 
-abbrev decreases-loop : tie.decreases-loop
-decreases-loop file op first start interval rows most₀ k₀ most k = 16 - k
+abbrev decreases-loop-k : tie.decreases-loop-k
+decreases-loop-k file op first start interval rows most₀ k₀ most k = 16 - k
 
-loop-holds : tie.Need-loop-init invariant-loop decreases-loop
-loop-holds c = (omega arith, λ l. absurd (omega arith), λ i l. absurd (omega arith))
+loop-k-init : tie.Need-loop-k-init invariant-loop-k decreases-loop-k
+loop-k-init c = (omega arith, λ l. absurd (omega arith), λ i l. absurd (omega arith))
 
-abbrev start : tie.At-loop invariant-loop decreases-loop → tie.Start invariant-loop decreases-loop
+abbrev start : tie.At-loop-k invariant-loop-k decreases-loop-k → tie.Start invariant-loop-k decreases-loop-k
 start c = c.before.before.before
 
-abbrev uses : tie.Start invariant-loop decreases-loop → List Use
+abbrev uses : tie.Start invariant-loop-k decreases-loop-k → List Use
 uses s = (op_at (loop_of s.args.file.now) s.args.op).uses
 
-add-taken-in : tie.Need-overflow-add-taken-in invariant-loop decreases-loop
-add-taken-in c = omega (arith, (start c.before).pre.2)
+overflow_add-start : tie.Need-overflow_add-start invariant-loop-k decreases-loop-k
+overflow_add-start c = omega (arith, (start c.before).pre.2)
 
-rem-taken-in : tie.Need-nonzero-rem-taken-in invariant-loop decreases-loop
-rem-taken-in c = omega (arith, (start c.before).pre.3)
+nonzero_rem-start : tie.Need-nonzero_rem-start invariant-loop-k decreases-loop-k
+nonzero_rem-start c = omega (arith, (start c.before).pre.3)
 
 -- the row of cycle k is one of the rows
-row_inside : (c : tie.In-loop invariant-loop decreases-loop)
-    → let s = start c.before in (s.args.start + c.before.loop.k) % s.args.interval < length s.args.rows.now
-row_inside c = let s = start c.before in omega (arith, mod-lt (s.args.start + c.before.loop.k) {m = s.args.interval} s.pre.3, s.pre.5)
+row_inside : (c : tie.In-loop-k invariant-loop-k decreases-loop-k)
+    → let s = start c.before in (s.args.start + c.before.loop-k.k) % s.args.interval < length s.args.rows.now
+row_inside c = let s = start c.before in omega (arith, mod-lt (s.args.start + c.before.loop-k.k) {m = s.args.interval} s.pre.3, s.pre.5)
 
-mul-taken-in : tie.Need-overflow-mul-taken-in invariant-loop decreases-loop
-mul-taken-in c = omega (arith, row_inside c, (start c.before).pre.4)
+offset_bounds-rows-start : tie.Need-offset_bounds-rows-start invariant-loop-k decreases-loop-k
+offset_bounds-rows-start c = omega (arith, row_inside c, (start c.before).pre.4)
 
-shared-slice-read-taken-in : tie.Need-shared-slice-read-taken-in invariant-loop decreases-loop
-shared-slice-read-taken-in c = row_inside c.before
+bounds-rows-start : tie.Need-bounds-rows-start invariant-loop-k decreases-loop-k
+bounds-rows-start c = row_inside c.before
 
 -- a turn's cycle is one of the 16
-early : (c : tie.In-loop invariant-loop decreases-loop) → c.before.loop.k < 16
+early : (c : tie.In-loop-k invariant-loop-k decreases-loop-k) → c.before.loop-k.k < 16
 early c = omega arith
 
-taken-in-requires : tie.Need-taken-in-requires invariant-loop decreases-loop
-taken-in-requires c κs = let p = (start c.before.before).pre in (p.0, p.1, early c.before, p.4, p.6)
+taken_in-c-requires : tie.Need-taken_in-c-requires invariant-loop-k decreases-loop-k
+taken_in-c-requires c κs = let p = (start c.before.before).pre in (p.0, p.1, early c.before, p.4, p.6)
 
-enum-known-c : tie.Need-enum-known-c invariant-loop decreases-loop
-enum-known-c c = search rules
+enum_known-c : tie.Need-enum_known-c invariant-loop-k decreases-loop-k
+enum_known-c c = search rules
 
-returns : tie.Need-returns invariant-loop decreases-loop
-returns c =
+returns-in-Taken : tie.Need-returns-in-Taken invariant-loop-k decreases-loop-k
+returns-in-Taken c =
     let b = c.before.before.before in
     let i = b.before.before in
     let h = i.before in
     let a = (start h).args in
-    sym (place_taken row_base a.interval a.rows.now a.start (uses (start h)) h.loop.k c.before.c.given.0.0 (cycles_of (uses (start h))) b.taken_in.result
-    (early i) h.loop.invariant.2 b.taken_in.ensures c.before.c.given.1)
+    sym (place_taken row_base a.interval a.rows.now a.start (uses (start h)) h.loop-k.k c.before.c-1.given.0.0 (cycles_of (uses (start h))) b.taken_in-c.result
+    (early i) h.loop-k.invariant.2 b.taken_in-c.ensures c.before.c-1.given.1)
 
-enum-known-c-2 : tie.Need-enum-known-c-2 invariant-loop decreases-loop
-enum-known-c-2 c = search rules
+enum_known-c-in-Free-1 : tie.Need-enum_known-c-in-Free-1 invariant-loop-k decreases-loop-k
+enum_known-c-in-Free-1 c = search rules
 
-add-k : tie.Need-overflow-add-k invariant-loop decreases-loop
-add-k c = omega arith
+overflow_add-k : tie.Need-overflow_add-k invariant-loop-k decreases-loop-k
+overflow_add-k c = omega arith
 
-loop-less : tie.Need-loop-smaller invariant-loop decreases-loop
-loop-less c = omega arith
+loop-k-smaller : tie.Need-loop-k-smaller invariant-loop-k decreases-loop-k
+loop-k-smaller c = omega arith
 
 -- where the test finds nothing in cycle k, it says how many cycles the uses cover
-abbrev turn : tie.After-known-told2 invariant-loop decreases-loop → tie.At-loop invariant-loop decreases-loop
+abbrev turn : tie.In-Free invariant-loop-k decreases-loop-k → tie.At-loop-k invariant-loop-k decreases-loop-k
 turn c = c.before.before.before.before.before.before
 
-told : (c : tie.After-known-told2 invariant-loop decreases-loop)
+told : (c : tie.In-Free invariant-loop-k decreases-loop-k)
     → let s = start (turn c) in
-    let k = (turn c).loop.k in
-    (met_in row_base s.args.interval (row_at s.args.interval s.args.rows.now s.args.start k) k (uses s) ≡ none) × (c.before.c2.given.0.0 ≡ cycles_of (uses s))
+    let k = (turn c).loop-k.k in
+    (met_in row_base s.args.interval (row_at s.args.interval s.args.rows.now s.args.start k) k (uses s) ≡ none) × (c.before.c-in-Free-1.given.0.0 ≡ cycles_of (uses s))
 told c =
     let b = c.before.before.before in
-    cycle_free b.taken_in.result c.before.c2.given.0.0 (cycles_of (uses (start (turn c)))) _ b.taken_in.ensures c.before.c2.given.1
+    cycle_free b.taken_in-c.result c.before.c-in-Free-1.given.0.0 (cycles_of (uses (start (turn c)))) _ b.taken_in-c.ensures c.before.c-in-Free-1.given.1
 
-loop-again : tie.Need-loop-preserved invariant-loop decreases-loop
-loop-again c =
+loop-k-preserved : tie.Need-loop-k-preserved invariant-loop-k decreases-loop-k
+loop-k-preserved c =
     let h = turn c in
     let s = start h in
     let f = s.args.file.now in (
       omega (arith, (told c).1, cycles_most (uses s) 16 (λ j l. (((accepted_ok f s.pre.0).op_ok s.args.op s.pre.1).each j l).ends)),
       λ l. omega (arith, (told c).1),
-      below_more _ h.loop.k h.loop.inv.2 (told c).0,
+      below_more _ h.loop-k.k h.loop-k.inv.2 (told c).0,
     )
 
-returns-2 : tie.Need-returns-2 invariant-loop decreases-loop
-returns-2 c =
+returns : tie.Need-returns invariant-loop-k decreases-loop-k
+returns c =
     let h = c.before in
     let a = (start h).args in
-    sym (place_free row_base a.interval a.rows.now a.start (uses (start h)) h.loop.k h.loop.invariant.2 (h.loop.invariant.1 c.loop-test.false))
+    sym (place_free row_base a.interval a.rows.now a.start (uses (start h)) h.loop-k.k h.loop-k.invariant.2 (h.loop-k.invariant.1 c.loop-k-test.false))
 
 pub conflict_spec : {M : Type 1} → statement M
 conflict_spec =
     tie.close
     (tie.spec
-    invariant-loop
-    decreases-loop
-    loop-holds
-    add-taken-in
-    rem-taken-in
-    mul-taken-in
-    shared-slice-read-taken-in
-    taken-in-requires
-    enum-known-c
-    returns
-    enum-known-c-2
-    add-k
-    loop-less
-    loop-again
-    returns-2)
+    invariant-loop-k
+    decreases-loop-k
+    loop-k-init
+    overflow_add-start
+    nonzero_rem-start
+    offset_bounds-rows-start
+    bounds-rows-start
+    taken_in-c-requires
+    enum_known-c
+    returns-in-Taken
+    enum_known-c-in-Free-1
+    overflow_add-k
+    loop-k-smaller
+    loop-k-preserved
+    returns)

@@ -16,26 +16,26 @@ use-of s = get_or (all_uses (loop_of s.args.file.now)) s.args.u no_use
 use_ok : (s : tie.Start) → UseOk (use-of s)
 use_ok s = let f = s.args.file.now in all_ok (loop_of f) (accepted_ok f s.requires.0) s.args.u s.requires.1
 
-abbrev start : tie.After-offset → tie.Start
+abbrev start : tie.After-offset-from → tie.Start
 start c = c.before.before
 
-offset-requires : tie.Need-offset-requires
-offset-requires c κs = search rules
+offset-from-requires : tie.Need-offset-from-requires
+offset-from-requires c κs = search rules
 
-returns : tie.Need-returns
-returns c = let s = start c.before in rw (lt-leb (use-of s).offset s.args.k (omega (arith, c.before.offset.ensures)))
+returns-then-k-from : tie.Need-returns-then-k-from
+returns-then-k-from c = let s = start c.before in rw (lt-leb (use-of s).offset-from s.args.k (omega (arith, c.before.offset-from.ensures)))
 
 duration-requires : tie.Need-duration-requires
 duration-requires c κs = search rules
 
-add-result : tie.Need-overflow-add-result
-add-result c = omega (arith, (use_ok (start c.before.before)).ends, c.before.before.offset.ensures, c.duration.ensures)
+overflow_add-result : tie.Need-overflow_add-result
+overflow_add-result c = omega (arith, (use_ok (start c.before.before)).ends, c.before.before.offset-from.ensures, c.duration.ensures)
 
-returns-2 : tie.Need-returns-2
-returns-2 c =
+returns : tie.Need-returns
+returns c =
     let o = c.before.before in
     let s = start o in
-    rw (o.offset.ensures, c.duration.ensures, le-leb (use-of s).offset s.args.k (omega (arith, o.offset.ensures)))
+    rw (o.offset-from.ensures, c.duration.ensures, le-leb (use-of s).offset-from s.args.k (omega (arith, o.offset-from.ensures)))
 
 pub covers_cycle_spec : {M : Type 1} → statement M
-covers_cycle_spec = tie.close (tie.spec offset-requires returns duration-requires add-result returns-2)
+covers_cycle_spec = tie.close (tie.spec offset-from-requires returns-then-k-from duration-requires overflow_add-result returns)

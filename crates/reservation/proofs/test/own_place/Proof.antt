@@ -17,91 +17,91 @@ use Rattle.reservation.proofs.Fits.{own_same}
 use Rattle.reservation.proofs.test.own_place.Statement.{statement}
 use Rattle.reservation.proofs.test.own_place.Tie as tie
 
-abbrev invariant-loop : tie.invariant-loop
-invariant-loop file op first interval most₀ k₀ most k =
+abbrev invariant-loop-k : tie.invariant-loop-k
+invariant-loop-k file op first interval most₀ k₀ most k =
     (most ≤ 16) × (cycles_of (op_at (loop_of file) op).uses ≤ most) × ((i : ℕ) → i < k → met_in row_base interval 0 i (op_at (loop_of file) op).uses ≡ none)
 
-abbrev decreases-loop : tie.decreases-loop
-decreases-loop file op first interval most₀ k₀ most k = 16 - k
+abbrev decreases-loop-k : tie.decreases-loop-k
+decreases-loop-k file op first interval most₀ k₀ most k = 16 - k
 
-abbrev uses : tie.Start invariant-loop decreases-loop → List Use
+abbrev uses : tie.Start invariant-loop-k decreases-loop-k → List Use
 uses s = (op_at (loop_of s.args.file.now) s.args.op).uses
 
 -- the uses cover 16 cycles at most
-few : (s : tie.Start invariant-loop decreases-loop) → cycles_of (uses s) ≤ 16
+few : (s : tie.Start invariant-loop-k decreases-loop-k) → cycles_of (uses s) ≤ 16
 few s = let f = s.args.file.now in cycles_most (uses s) 16 (λ j l. (((accepted_ok f s.requires.0).op_ok s.args.op s.requires.1).each j l).ends)
 
-loop-holds : tie.Need-loop-init invariant-loop decreases-loop
-loop-holds c = let s = c.before in (omega arith, few s, λ i l. before_itself row_base s.args.interval i (uses s) l)
+loop-k-init : tie.Need-loop-k-init invariant-loop-k decreases-loop-k
+loop-k-init c = let s = c.before in (omega arith, few s, λ i l. before_itself row_base s.args.interval i (uses s) l)
 
-abbrev start : tie.At-loop invariant-loop decreases-loop → tie.Start invariant-loop decreases-loop
+abbrev start : tie.At-loop-k invariant-loop-k decreases-loop-k → tie.Start invariant-loop-k decreases-loop-k
 start c = c.before.before
 
 -- a turn's cycle is one of the 16
-early : (c : tie.In-loop invariant-loop decreases-loop) → c.before.loop.k < 16
+early : (c : tie.In-loop-k invariant-loop-k decreases-loop-k) → c.before.loop-k.k < 16
 early c = omega arith
 
-taken-in-requires : tie.Need-taken-in-requires invariant-loop decreases-loop
-taken-in-requires c κs = let p = (start c.before).pre in (p.0, p.1, early c, p.3, p.4)
+taken_in-c-requires : tie.Need-taken_in-c-requires invariant-loop-k decreases-loop-k
+taken_in-c-requires c κs = let p = (start c.before).pre in (p.0, p.1, early c, p.3, p.4)
 
-enum-known-c : tie.Need-enum-known-c invariant-loop decreases-loop
-enum-known-c c = search rules
+enum_known-c : tie.Need-enum_known-c invariant-loop-k decreases-loop-k
+enum_known-c c = search rules
 
-returns : tie.Need-returns invariant-loop decreases-loop
-returns c = λ s.
+returns-in-Taken : tie.Need-returns-in-Taken invariant-loop-k decreases-loop-k
+returns-in-Taken c = λ s.
     let b = c.before.before.before in
     let i = b.before in
     let h = i.before in
     let w = start h in
     let a = w.args in
     sym (ap place_is (own_same row_base a.interval (op_at (loop_of a.file.now) a.op) w.pre.2 s)
-    ∙ place_taken row_base a.interval [] 0 (uses w) h.loop.k c.before.c.given.0.0 (cycles_of (uses w)) b.taken_in.result
-    (early i) h.loop.invariant.2 b.taken_in.ensures c.before.c.given.1)
+    ∙ place_taken row_base a.interval [] 0 (uses w) h.loop-k.k c.before.c-1.given.0.0 (cycles_of (uses w)) b.taken_in-c.result
+    (early i) h.loop-k.invariant.2 b.taken_in-c.ensures c.before.c-1.given.1)
 
-enum-known-c-2 : tie.Need-enum-known-c-2 invariant-loop decreases-loop
-enum-known-c-2 c = search rules
+enum_known-c-in-Free-1 : tie.Need-enum_known-c-in-Free-1 invariant-loop-k decreases-loop-k
+enum_known-c-in-Free-1 c = search rules
 
-add-k : tie.Need-overflow-add-k invariant-loop decreases-loop
-add-k c = omega arith
+overflow_add-k : tie.Need-overflow_add-k invariant-loop-k decreases-loop-k
+overflow_add-k c = omega arith
 
-loop-less : tie.Need-loop-smaller invariant-loop decreases-loop
-loop-less c = omega arith
+loop-k-smaller : tie.Need-loop-k-smaller invariant-loop-k decreases-loop-k
+loop-k-smaller c = omega arith
 
 -- where the test finds nothing in cycle k, it says how many cycles the uses cover
-abbrev turn : tie.After-known-told2 invariant-loop decreases-loop → tie.At-loop invariant-loop decreases-loop
+abbrev turn : tie.In-Free invariant-loop-k decreases-loop-k → tie.At-loop-k invariant-loop-k decreases-loop-k
 turn c = c.before.before.before.before.before
 
-told : (c : tie.After-known-told2 invariant-loop decreases-loop)
-    → let w = start (turn c) in (met_in row_base w.args.interval 0 (turn c).loop.k (uses w) ≡ none) × (c.before.c2.given.0.0 ≡ cycles_of (uses w))
+told : (c : tie.In-Free invariant-loop-k decreases-loop-k)
+    → let w = start (turn c) in (met_in row_base w.args.interval 0 (turn c).loop-k.k (uses w) ≡ none) × (c.before.c-in-Free-1.given.0.0 ≡ cycles_of (uses w))
 told c =
     let b = c.before.before.before in
-    cycle_free b.taken_in.result c.before.c2.given.0.0 (cycles_of (uses (start (turn c)))) _ b.taken_in.ensures c.before.c2.given.1
+    cycle_free b.taken_in-c.result c.before.c-in-Free-1.given.0.0 (cycles_of (uses (start (turn c)))) _ b.taken_in-c.ensures c.before.c-in-Free-1.given.1
 
-loop-again : tie.Need-loop-preserved invariant-loop decreases-loop
-loop-again c =
+loop-k-preserved : tie.Need-loop-k-preserved invariant-loop-k decreases-loop-k
+loop-k-preserved c =
     let h = turn c in
-    (omega (arith, (told c).1, few (start h)), omega (arith, (told c).1), below_more _ h.loop.k h.loop.inv.2 (told c).0)
+    (omega (arith, (told c).1, few (start h)), omega (arith, (told c).1), below_more _ h.loop-k.k h.loop-k.inv.2 (told c).0)
 
-returns-2 : tie.Need-returns-2 invariant-loop decreases-loop
-returns-2 c = λ s.
+returns : tie.Need-returns invariant-loop-k decreases-loop-k
+returns c = λ s.
     let h = c.before in
     let b = start h in
     let a = b.args in
     sym (ap place_is (own_same row_base a.interval (op_at (loop_of a.file.now) a.op) b.pre.2 s)
-    ∙ place_free row_base a.interval [] 0 (uses b) h.loop.k h.loop.invariant.2 (omega arith))
+    ∙ place_free row_base a.interval [] 0 (uses b) h.loop-k.k h.loop-k.invariant.2 (omega arith))
 
 pub own_place_spec : {M : Type 1} → statement M
 own_place_spec =
     tie.close
     (tie.spec
-    invariant-loop
-    decreases-loop
-    loop-holds
-    taken-in-requires
-    enum-known-c
-    returns
-    enum-known-c-2
-    add-k
-    loop-less
-    loop-again
-    returns-2)
+    invariant-loop-k
+    decreases-loop-k
+    loop-k-init
+    taken_in-c-requires
+    enum_known-c
+    returns-in-Taken
+    enum_known-c-in-Free-1
+    overflow_add-k
+    loop-k-smaller
+    loop-k-preserved
+    returns)

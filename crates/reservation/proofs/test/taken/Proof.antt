@@ -25,22 +25,22 @@ use-of s = get_or (all_uses (loop_of s.args.file.now)) s.args.u no_use
 use_ok : (s : tie.Start) → UseOk (use-of s)
 use_ok s = let f = s.args.file.now in all_ok (loop_of f) (accepted_ok f s.requires.0) s.args.u s.requires.1
 
-abbrev start : tie.After-covers-cycle → tie.Start
+abbrev start : tie.After-covers_cycle → tie.Start
 start c = c.before.before
 
-covers-cycle-requires : tie.Need-covers-cycle-requires
-covers-cycle-requires c κs = search rules
+covers_cycle-requires : tie.Need-covers_cycle-requires
+covers_cycle-requires c κs = search rules
 
-returns : tie.Need-returns
-returns c = let t = c.before in rw (sym t.covers-cycle.ensures ∙ not-true t.covers-cycle.result c.if1.true)
+returns-then-not-covers_cycle : tie.Need-returns-then-not-covers_cycle
+returns-then-not-covers_cycle c = let t = c.before in rw (sym t.covers_cycle.ensures ∙ not-true t.covers_cycle.result c.if-not-covers_cycle.true)
 
 -- past the first test the use covers the cycle
-covered : (c : tie.Else1) → let s = start c.before in ((use-of s).offset ≤ s.args.k) × (s.args.k < (use-of s).offset + (use-of s).duration)
+covered : (c : tie.Else-not-covers_cycle) → let s = start c.before in ((use-of s).offset ≤ s.args.k) × (s.args.k < (use-of s).offset + (use-of s).duration)
 covered c =
     let t = c.before in
     let s = start t in
     let u = use-of s in
-    let e : covers s.args.k u ≡ true = sym t.covers-cycle.ensures ∙ not-false t.covers-cycle.result c.if1.false in
+    let e : covers s.args.k u ≡ true = sym t.covers_cycle.ensures ∙ not-false t.covers_cycle.result c.if-not-covers_cycle.false in
     let begun = leb u.offset s.args.k in
     let going = ltb s.args.k (u.offset + u.duration) in
     (leb-true _ _ (and_left begun going e), ltb-true _ _ (and_right begun going e))
@@ -48,11 +48,11 @@ covered c =
 offset-requires : tie.Need-offset-requires
 offset-requires c κs = search rules
 
-add-if2 : tie.Need-overflow-add-if2
-add-if2 c = let s = start c.before.before in omega (arith, (use_ok s).ends, c.offset.ensures, s.pre.3)
+overflow_add-offset : tie.Need-overflow_add-offset
+overflow_add-offset c = let s = start c.before.before in omega (arith, (use_ok s).ends, c.offset.ensures, s.pre.3)
 
-returns-2 : tie.Need-returns-2
-returns-2 c =
+returns-then-offset-interval : tie.Need-returns-then-offset-interval
+returns-then-offset-interval c =
     let o = c.before in
     let s = start o.before.before in
     let h = covered o.before in
@@ -67,14 +67,14 @@ far c = c.before.before
 abbrev turn : tie.After-slot → tie.Start
 turn c = start (far c).before.before
 
-sub-result : tie.Need-overflow-sub-result
-sub-result c = omega (arith, (use_ok (turn c)).slot_low, c.slot.ensures)
+overflow_sub-result : tie.Need-overflow_sub-result
+overflow_sub-result c = omega (arith, (use_ok (turn c)).slot_low, c.slot.ensures)
 
-shr-result : tie.Need-overflow-shr-result
-shr-result c = omega (arith, (use_ok (turn c)).slot_high, c.slot.ensures)
+overflow_shr-result : tie.Need-overflow_shr-result
+overflow_shr-result c = omega (arith, (use_ok (turn c)).slot_high, c.slot.ensures)
 
-returns-3 : tie.Need-returns-3
-returns-3 c =
+returns : tie.Need-returns
+returns c =
     let s = turn c in
     let h = covered (far c).before in
     ap (λ (x : ℕ). eqb x 1) (and_mask (s.args.row / 2 ^ (c.slot.result - 1)) 1)
@@ -85,12 +85,12 @@ pub taken_spec : {M : Type 1} → statement M
 taken_spec =
     tie.close
     (tie.spec
-    covers-cycle-requires
-    returns
+    covers_cycle-requires
+    returns-then-not-covers_cycle
     offset-requires
-    add-if2
-    returns-2
+    overflow_add-offset
+    returns-then-offset-interval
     slot-requires
-    sub-result
-    shr-result
-    returns-3)
+    overflow_sub-result
+    overflow_shr-result
+    returns)

@@ -10,23 +10,23 @@ use Rattle.search.proofs.attempt.kept.Tie as tie
 told : (c : tie.Start) (s : Swept) → c.args.s ≡ s → kept_of s c.args.n ≡ kept_of c.args.s c.args.n
 told c s e = sym (ap (λ (t : Swept). kept_of t c.args.n) e)
 
-enum_told : tie.Need-enum-told
-enum_told c = search rules
+enum_told-1 : tie.Need-enum_told-1
+enum_told-1 c = search rules
 
-enum-told-2 : tie.Need-enum-told-2
-enum-told-2 c = search rules
+enum_told-in-Nothing : tie.Need-enum_told-in-Nothing
+enum_told-in-Nothing c = search rules
 
-enum-told-3 : tie.Need-enum-told-3
-enum-told-3 c = search rules
+enum_told-in-Spent : tie.Need-enum_told-in-Spent
+enum_told-in-Spent c = search rules
 
-returns : tie.Need-returns
-returns c = told c.before.before _ c.enum_told.given.1
+returns-in-Found : tie.Need-returns-in-Found
+returns-in-Found c = told c.before.before _ c.enum_told-1.given.1
 
-returns-2 : tie.Need-returns-2
-returns-2 c = told c.before.before _ c.enum-told2.given.1
+returns-in-Nothing : tie.Need-returns-in-Nothing
+returns-in-Nothing c = told c.before.before _ c.enum_told-in-Nothing-1.given.1
 
-returns-3 : tie.Need-returns-3
-returns-3 c = told c.before.before _ c.enum-told3.given.1
+returns-in-Spent : tie.Need-returns-in-Spent
+returns-in-Spent c = told c.before.before _ c.enum_told-in-Spent-1.given.1
 
 pub kept_spec : {M : Type 1} → statement M
-kept_spec = tie.close (tie.spec enum_told enum-told-2 enum-told-3 returns returns-2 returns-3)
+kept_spec = tie.close (tie.spec enum_told-1 enum_told-in-Nothing enum_told-in-Spent returns-in-Found returns-in-Nothing returns-in-Spent)

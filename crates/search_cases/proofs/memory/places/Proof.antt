@@ -5,51 +5,51 @@ use lib.ListN.{length}
 use Rattle.search_cases.proofs.memory.places.Statement.{statement}
 use Rattle.search_cases.proofs.memory.places.Tie as tie
 
-abbrev invariant-loop : tie.invariant-loop
-invariant-loop list kept₀ i₀ kept i = kept ≤ i
+abbrev invariant-loop-i : tie.invariant-loop-i
+invariant-loop-i list kept₀ i₀ kept i = kept ≤ i
 
-abbrev decreases-loop : tie.decreases-loop
-decreases-loop list kept₀ i₀ kept i = length list - i
+abbrev decreases-loop-i : tie.decreases-loop-i
+decreases-loop-i list kept₀ i₀ kept i = length list - i
 
-loop-holds : tie.Need-loop-init invariant-loop decreases-loop
-loop-holds c = omega arith
+loop-i-init : tie.Need-loop-i-init invariant-loop-i decreases-loop-i
+loop-i-init c = omega arith
 
-mul-show-place : tie.Need-overflow-mul-show-place invariant-loop decreases-loop
-mul-show-place c = omega arith
+offset_bounds-list-i : tie.Need-offset_bounds-list-i invariant-loop-i decreases-loop-i
+offset_bounds-list-i c = omega arith
 
-shared-slice-read-show-place : tie.Need-shared-slice-read-show-place invariant-loop decreases-loop
-shared-slice-read-show-place c = omega arith
+bounds-list-i : tie.Need-bounds-list-i invariant-loop-i decreases-loop-i
+bounds-list-i c = omega arith
 
-show-place-requires : tie.Need-show-place-requires invariant-loop decreases-loop
-show-place-requires c κs = tt
+show_place-kept-requires : tie.Need-show_place-kept-requires invariant-loop-i decreases-loop-i
+show_place-kept-requires c κs = tt
 
-add_kept : tie.Need-overflow-add-kept invariant-loop decreases-loop
-add_kept c = omega arith
+overflow_add-kept : tie.Need-overflow_add-kept invariant-loop-i decreases-loop-i
+overflow_add-kept c = omega arith
 
-add-i : tie.Need-overflow-add-i invariant-loop decreases-loop
-add-i c = omega arith
+overflow_add-i : tie.Need-overflow_add-i invariant-loop-i decreases-loop-i
+overflow_add-i c = omega arith
 
-loop-less : tie.Need-loop-smaller invariant-loop decreases-loop
-loop-less c = omega arith
+loop-i-smaller : tie.Need-loop-i-smaller invariant-loop-i decreases-loop-i
+loop-i-smaller c = omega arith
 
-loop-again : tie.Need-loop-preserved invariant-loop decreases-loop
-loop-again c = omega arith
+loop-i-preserved : tie.Need-loop-i-preserved invariant-loop-i decreases-loop-i
+loop-i-preserved c = omega arith
 
-returns : tie.Need-returns invariant-loop decreases-loop
+returns : tie.Need-returns invariant-loop-i decreases-loop-i
 returns c = tt
 
 pub places_spec : {M : Type 1} → statement M
 places_spec =
     tie.close
     (tie.spec
-    invariant-loop
-    decreases-loop
-    loop-holds
-    mul-show-place
-    shared-slice-read-show-place
-    show-place-requires
-    add_kept
-    add-i
-    loop-less
-    loop-again
+    invariant-loop-i
+    decreases-loop-i
+    loop-i-init
+    offset_bounds-list-i
+    bounds-list-i
+    show_place-kept-requires
+    overflow_add-kept
+    overflow_add-i
+    loop-i-smaller
+    loop-i-preserved
     returns)

@@ -3,31 +3,31 @@ use Rattle.std.proofs.Common.{◌-◌, arith}
 use Rattle.search_random.proofs.lower.feasible.Statement.{statement}
 use Rattle.search_random.proofs.lower.feasible.Tie as tie
 
-abbrev invariant-loop : tie.invariant-loop
-invariant-loop d interval times₀ moves₀ k₀ times moves k = Unit
+abbrev invariant-loop-k : tie.invariant-loop-k
+invariant-loop-k d interval times₀ moves₀ k₀ times moves k = Unit
 
-abbrev decreases-loop : tie.decreases-loop
-decreases-loop d interval times₀ moves₀ k₀ times moves k = 5 - k
+abbrev decreases-loop-k : tie.decreases-loop-k
+decreases-loop-k d interval times₀ moves₀ k₀ times moves k = 5 - k
 
-loop-holds : tie.Need-loop-init invariant-loop decreases-loop
-loop-holds c = tt
+loop-k-init : tie.Need-loop-k-init invariant-loop-k decreases-loop-k
+loop-k-init c = tt
 
-round-requires : tie.Need-round-requires invariant-loop decreases-loop
-round-requires c κs = tt
+round-moves-requires : tie.Need-round-moves-requires invariant-loop-k decreases-loop-k
+round-moves-requires c κs = tt
 
-add-k : tie.Need-overflow-add-k invariant-loop decreases-loop
-add-k c = omega arith
+overflow_add-k : tie.Need-overflow_add-k invariant-loop-k decreases-loop-k
+overflow_add-k c = omega arith
 
-loop-less : tie.Need-loop-smaller invariant-loop decreases-loop
-loop-less c = omega arith
+loop-k-smaller : tie.Need-loop-k-smaller invariant-loop-k decreases-loop-k
+loop-k-smaller c = omega arith
 
-loop-again : tie.Need-loop-preserved invariant-loop decreases-loop
-loop-again c = tt
+loop-k-preserved : tie.Need-loop-k-preserved invariant-loop-k decreases-loop-k
+loop-k-preserved c = tt
 
-returns : tie.Need-returns invariant-loop decreases-loop
+returns : tie.Need-returns invariant-loop-k decreases-loop-k
 returns c = tt
 
 pub feasible_spec : {M : Type 1} → statement M
 feasible_spec =
     tie.close
-    (tie.spec invariant-loop decreases-loop loop-holds round-requires add-k loop-less loop-again returns)
+    (tie.spec invariant-loop-k decreases-loop-k loop-k-init round-moves-requires overflow_add-k loop-k-smaller loop-k-preserved returns)

@@ -3,47 +3,47 @@ use Rattle.std.proofs.Common.{◌-◌, arith}
 use Rattle.search_random.proofs.lower.recurrence.Statement.{statement}
 use Rattle.search_random.proofs.lower.recurrence.Tie as tie
 
-abbrev invariant-loop : tie.invariant-loop
-invariant-loop d interval₀ interval = Unit
+abbrev invariant-loop-interval : tie.invariant-loop-interval
+invariant-loop-interval d interval₀ interval = Unit
 
-abbrev decreases-loop : tie.decreases-loop
-decreases-loop d interval₀ interval = 101 - interval
+abbrev decreases-loop-interval : tie.decreases-loop-interval
+decreases-loop-interval d interval₀ interval = 101 - interval
 
-loop-holds : tie.Need-loop-init invariant-loop decreases-loop
-loop-holds c = tt
+loop-interval-init : tie.Need-loop-interval-init invariant-loop-interval decreases-loop-interval
+loop-interval-init c = tt
 
-feasible-requires : tie.Need-feasible-requires invariant-loop decreases-loop
+feasible-requires : tie.Need-feasible-requires invariant-loop-interval decreases-loop-interval
 feasible-requires c κs = tt
 
-cast-result : tie.Need-overflow-cast-result invariant-loop decreases-loop
-cast-result c = omega arith
+overflow_cast-result : tie.Need-overflow_cast-result invariant-loop-interval decreases-loop-interval
+overflow_cast-result c = omega arith
 
-returns : tie.Need-returns invariant-loop decreases-loop
+returns-then-feasible : tie.Need-returns-then-feasible invariant-loop-interval decreases-loop-interval
+returns-then-feasible c = tt
+
+overflow_add-interval : tie.Need-overflow_add-interval invariant-loop-interval decreases-loop-interval
+overflow_add-interval c = omega arith
+
+loop-interval-smaller : tie.Need-loop-interval-smaller invariant-loop-interval decreases-loop-interval
+loop-interval-smaller c = omega arith
+
+loop-interval-preserved : tie.Need-loop-interval-preserved invariant-loop-interval decreases-loop-interval
+loop-interval-preserved c = tt
+
+returns : tie.Need-returns invariant-loop-interval decreases-loop-interval
 returns c = tt
-
-add-interval : tie.Need-overflow-add-interval invariant-loop decreases-loop
-add-interval c = omega arith
-
-loop-less : tie.Need-loop-smaller invariant-loop decreases-loop
-loop-less c = omega arith
-
-loop-again : tie.Need-loop-preserved invariant-loop decreases-loop
-loop-again c = tt
-
-returns-2 : tie.Need-returns-2 invariant-loop decreases-loop
-returns-2 c = tt
 
 pub recurrence_spec : {M : Type 1} → statement M
 recurrence_spec =
     tie.close
     (tie.spec
-    invariant-loop
-    decreases-loop
-    loop-holds
+    invariant-loop-interval
+    decreases-loop-interval
+    loop-interval-init
     feasible-requires
-    cast-result
-    returns
-    add-interval
-    loop-less
-    loop-again
-    returns-2)
+    overflow_cast-result
+    returns-then-feasible
+    overflow_add-interval
+    loop-interval-smaller
+    loop-interval-preserved
+    returns)

@@ -3,31 +3,31 @@ use Rattle.std.proofs.Common.{◌-◌, arith}
 use Rattle.search_random.proofs.lower.round.Statement.{statement}
 use Rattle.search_random.proofs.lower.round.Tie as tie
 
-abbrev invariant-loop : tie.invariant-loop
-invariant-loop d times₀ interval any₀ e₀ times any e = Unit
+abbrev invariant-loop-e : tie.invariant-loop-e
+invariant-loop-e d times₀ interval any₀ e₀ times any e = Unit
 
-abbrev decreases-loop : tie.decreases-loop
-decreases-loop d times₀ interval any₀ e₀ times any e = d.m - e
+abbrev decreases-loop-e : tie.decreases-loop-e
+decreases-loop-e d times₀ interval any₀ e₀ times any e = d.m - e
 
-loop-holds : tie.Need-loop-init invariant-loop decreases-loop
-loop-holds c = tt
+loop-e-init : tie.Need-loop-e-init invariant-loop-e decreases-loop-e
+loop-e-init c = tt
 
-moved-requires : tie.Need-moved-requires invariant-loop decreases-loop
-moved-requires c κs = tt
+moved-any-requires : tie.Need-moved-any-requires invariant-loop-e decreases-loop-e
+moved-any-requires c κs = tt
 
-add-e : tie.Need-overflow-add-e invariant-loop decreases-loop
-add-e c = omega arith
+overflow_add-e : tie.Need-overflow_add-e invariant-loop-e decreases-loop-e
+overflow_add-e c = omega arith
 
-loop-less : tie.Need-loop-smaller invariant-loop decreases-loop
-loop-less c = omega arith
+loop-e-smaller : tie.Need-loop-e-smaller invariant-loop-e decreases-loop-e
+loop-e-smaller c = omega arith
 
-loop-again : tie.Need-loop-preserved invariant-loop decreases-loop
-loop-again c = tt
+loop-e-preserved : tie.Need-loop-e-preserved invariant-loop-e decreases-loop-e
+loop-e-preserved c = tt
 
-returns : tie.Need-returns invariant-loop decreases-loop
+returns : tie.Need-returns invariant-loop-e decreases-loop-e
 returns c = tt
 
 pub round_spec : {M : Type 1} → statement M
 round_spec =
     tie.close
-    (tie.spec invariant-loop decreases-loop loop-holds moved-requires add-e loop-less loop-again returns)
+    (tie.spec invariant-loop-e decreases-loop-e loop-e-init moved-any-requires overflow_add-e loop-e-smaller loop-e-preserved returns)

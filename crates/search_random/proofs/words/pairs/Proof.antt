@@ -3,55 +3,55 @@ use Rattle.std.proofs.Common.{◌-◌, arith}
 use Rattle.search_random.proofs.words.pairs.Statement.{statement}
 use Rattle.search_random.proofs.words.pairs.Tie as tie
 
-abbrev invariant-loop : tie.invariant-loop
-invariant-loop d k interval last h count₀ code₀ count code = Unit
+abbrev invariant-loop-code : tie.invariant-loop-code
+invariant-loop-code d k interval last h count₀ code₀ count code = Unit
 
-abbrev decreases-loop : tie.decreases-loop
-decreases-loop d k interval last h count₀ code₀ count code = 625 - code
+abbrev decreases-loop-code : tie.decreases-loop-code
+decreases-loop-code d k interval last h count₀ code₀ count code = 625 - code
 
-cast-larger : tie.Need-overflow-cast-larger invariant-loop decreases-loop
-cast-larger c = omega arith
+overflow_cast-d : tie.Need-overflow_cast-d invariant-loop-code decreases-loop-code
+overflow_cast-d c = omega arith
 
-larger-requires : tie.Need-larger-requires invariant-loop decreases-loop
-larger-requires c κs = tt
+larger-h-requires : tie.Need-larger-h-requires invariant-loop-code decreases-loop-code
+larger-h-requires c κs = tt
 
-loop-holds : tie.Need-loop-init invariant-loop decreases-loop
-loop-holds c = tt
+loop-code-init : tie.Need-loop-code-init invariant-loop-code decreases-loop-code
+loop-code-init c = tt
 
-div-legal : tie.Need-nonzero-div-legal invariant-loop decreases-loop
-div-legal c = omega arith
+nonzero_div-code : tie.Need-nonzero_div-code invariant-loop-code decreases-loop-code
+nonzero_div-code c = omega arith
 
-legal-requires : tie.Need-legal-requires invariant-loop decreases-loop
+legal-requires : tie.Need-legal-requires invariant-loop-code decreases-loop-code
 legal-requires c κs = tt
 
-wrapping-add-usize-requires : tie.Need-wrapping-add-usize-requires invariant-loop decreases-loop
-wrapping-add-usize-requires c κs = tt
+wrapping_add_usize-count-requires : tie.Need-wrapping_add_usize-count-requires invariant-loop-code decreases-loop-code
+wrapping_add_usize-count-requires c κs = tt
 
-add-code : tie.Need-overflow-add-code invariant-loop decreases-loop
-add-code c = omega arith
+overflow_add-code : tie.Need-overflow_add-code invariant-loop-code decreases-loop-code
+overflow_add-code c = omega arith
 
-loop-less : tie.Need-loop-smaller invariant-loop decreases-loop
-loop-less c = omega arith
+loop-code-smaller : tie.Need-loop-code-smaller invariant-loop-code decreases-loop-code
+loop-code-smaller c = omega arith
 
-loop-again : tie.Need-loop-preserved invariant-loop decreases-loop
-loop-again c = tt
+loop-code-preserved : tie.Need-loop-code-preserved invariant-loop-code decreases-loop-code
+loop-code-preserved c = tt
 
-returns : tie.Need-returns invariant-loop decreases-loop
+returns : tie.Need-returns invariant-loop-code decreases-loop-code
 returns c = tt
 
 pub pairs_spec : {M : Type 1} → statement M
 pairs_spec =
     tie.close
     (tie.spec
-    invariant-loop
-    decreases-loop
-    cast-larger
-    larger-requires
-    loop-holds
-    div-legal
+    invariant-loop-code
+    decreases-loop-code
+    overflow_cast-d
+    larger-h-requires
+    loop-code-init
+    nonzero_div-code
     legal-requires
-    wrapping-add-usize-requires
-    add-code
-    loop-less
-    loop-again
+    wrapping_add_usize-count-requires
+    overflow_add-code
+    loop-code-smaller
+    loop-code-preserved
     returns)

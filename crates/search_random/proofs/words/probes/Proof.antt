@@ -3,55 +3,55 @@ use Rattle.std.proofs.Common.{arith}
 use Rattle.search_random.proofs.words.probes.Statement.{statement}
 use Rattle.search_random.proofs.words.probes.Tie as tie
 
-abbrev invariant-loop : tie.invariant-loop
-invariant-loop d interval first h last₀ sum₀ k₀ last sum k = Unit
+abbrev invariant-loop-k : tie.invariant-loop-k
+invariant-loop-k d interval first h last₀ sum₀ k₀ last sum k = Unit
 
-abbrev decreases-loop : tie.decreases-loop
-decreases-loop d interval first h last₀ sum₀ k₀ last sum k = k
+abbrev decreases-loop-k : tie.decreases-loop-k
+decreases-loop-k d interval first h last₀ sum₀ k₀ last sum k = k
 
-cast-larger : tie.Need-overflow-cast-larger invariant-loop decreases-loop
-cast-larger c = omega arith
+overflow_cast-d : tie.Need-overflow_cast-d invariant-loop-k decreases-loop-k
+overflow_cast-d c = omega arith
 
-larger-requires : tie.Need-larger-requires invariant-loop decreases-loop
-larger-requires c κs = tt
+larger-h-requires : tie.Need-larger-h-requires invariant-loop-k decreases-loop-k
+larger-h-requires c κs = tt
 
-loop-holds : tie.Need-loop-init invariant-loop decreases-loop
-loop-holds c = tt
+loop-k-init : tie.Need-loop-k-init invariant-loop-k decreases-loop-k
+loop-k-init c = tt
 
-sub-k : tie.Need-overflow-sub-k invariant-loop decreases-loop
-sub-k c = omega arith
+overflow_sub-k : tie.Need-overflow_sub-k invariant-loop-k decreases-loop-k
+overflow_sub-k c = omega arith
 
-pairs-requires : tie.Need-pairs-requires invariant-loop decreases-loop
+pairs-requires : tie.Need-pairs-requires invariant-loop-k decreases-loop-k
 pairs-requires c κs = tt
 
-wrapping-add-usize-requires : tie.Need-wrapping-add-usize-requires invariant-loop decreases-loop
-wrapping-add-usize-requires c κs = tt
+wrapping_add_usize-sum-requires : tie.Need-wrapping_add_usize-sum-requires invariant-loop-k decreases-loop-k
+wrapping_add_usize-sum-requires c κs = tt
 
-div-last : tie.Need-nonzero-div-last invariant-loop decreases-loop
-div-last c = omega arith
+nonzero_div-last : tie.Need-nonzero_div-last invariant-loop-k decreases-loop-k
+nonzero_div-last c = omega arith
 
-loop-less : tie.Need-loop-smaller invariant-loop decreases-loop
-loop-less c = omega arith
+loop-k-smaller : tie.Need-loop-k-smaller invariant-loop-k decreases-loop-k
+loop-k-smaller c = omega arith
 
-loop-again : tie.Need-loop-preserved invariant-loop decreases-loop
-loop-again c = tt
+loop-k-preserved : tie.Need-loop-k-preserved invariant-loop-k decreases-loop-k
+loop-k-preserved c = tt
 
-returns : tie.Need-returns invariant-loop decreases-loop
+returns : tie.Need-returns invariant-loop-k decreases-loop-k
 returns c = tt
 
 pub probes_spec : {M : Type 1} → statement M
 probes_spec =
     tie.close
     (tie.spec
-    invariant-loop
-    decreases-loop
-    cast-larger
-    larger-requires
-    loop-holds
-    sub-k
+    invariant-loop-k
+    decreases-loop-k
+    overflow_cast-d
+    larger-h-requires
+    loop-k-init
+    overflow_sub-k
     pairs-requires
-    wrapping-add-usize-requires
-    div-last
-    loop-less
-    loop-again
+    wrapping_add_usize-sum-requires
+    nonzero_div-last
+    loop-k-smaller
+    loop-k-preserved
     returns)

@@ -3,75 +3,75 @@ use Rattle.std.proofs.Common.{◌-◌, arith}
 use Rattle.search_random.proofs.words.stages.Statement.{statement}
 use Rattle.search_random.proofs.words.stages.Tie as tie
 
-abbrev invariant-loop : tie.invariant-loop
-invariant-loop d starts interval free₀ op₀ free op = Unit
+abbrev invariant-loop-op : tie.invariant-loop-op
+invariant-loop-op d starts interval free₀ op₀ free op = Unit
 
-abbrev decreases-loop : tie.decreases-loop
-decreases-loop d starts interval free₀ op₀ free op = 6 - op
+abbrev decreases-loop-op : tie.decreases-loop-op
+decreases-loop-op d starts interval free₀ op₀ free op = 6 - op
 
-loop-holds : tie.Need-loop-init invariant-loop decreases-loop
-loop-holds c = tt
+loop-op-init : tie.Need-loop-op-init invariant-loop-op decreases-loop-op
+loop-op-init c = tt
 
-start-of-requires : tie.Need-start-of-requires invariant-loop decreases-loop
-start-of-requires c κs = tt
+start_of-s-requires : tie.Need-start_of-s-requires invariant-loop-op decreases-loop-op
+start_of-s-requires c κs = tt
 
-latency-requires : tie.Need-latency-requires invariant-loop decreases-loop
+latency-requires : tie.Need-latency-requires invariant-loop-op decreases-loop-op
 latency-requires c κs = tt
 
-larger-requires : tie.Need-larger-requires invariant-loop decreases-loop
-larger-requires c κs = tt
+larger-cycles-requires : tie.Need-larger-cycles-requires invariant-loop-op decreases-loop-op
+larger-cycles-requires c κs = tt
 
-cast-wrapping-add-usize : tie.Need-overflow-cast-wrapping-add-usize invariant-loop decreases-loop
-cast-wrapping-add-usize c = omega arith
+overflow_cast-s : tie.Need-overflow_cast-s invariant-loop-op decreases-loop-op
+overflow_cast-s c = omega arith
 
-wrapping-add-usize-requires : tie.Need-wrapping-add-usize-requires invariant-loop decreases-loop
-wrapping-add-usize-requires c κs = tt
+wrapping_add_usize-requires : tie.Need-wrapping_add_usize-requires invariant-loop-op decreases-loop-op
+wrapping_add_usize-requires c κs = tt
 
-larger-requires-2 : tie.Need-larger-requires-2 invariant-loop decreases-loop
-larger-requires-2 c κs = tt
+larger-free-requires : tie.Need-larger-free-requires invariant-loop-op decreases-loop-op
+larger-free-requires c κs = tt
 
-add-op : tie.Need-overflow-add-op invariant-loop decreases-loop
-add-op c = omega arith
+overflow_add-op : tie.Need-overflow_add-op invariant-loop-op decreases-loop-op
+overflow_add-op c = omega arith
 
-loop-less : tie.Need-loop-smaller invariant-loop decreases-loop
-loop-less c = omega arith
+loop-op-smaller : tie.Need-loop-op-smaller invariant-loop-op decreases-loop-op
+loop-op-smaller c = omega arith
 
-loop-again : tie.Need-loop-preserved invariant-loop decreases-loop
-loop-again c = tt
+loop-op-preserved : tie.Need-loop-op-preserved invariant-loop-op decreases-loop-op
+loop-op-preserved c = tt
 
-larger-requires-3 : tie.Need-larger-requires-3 invariant-loop decreases-loop
-larger-requires-3 c κs = tt
+larger-ii-requires : tie.Need-larger-ii-requires invariant-loop-op decreases-loop-op
+larger-ii-requires c κs = tt
 
-wrapping-sub-usize-requires : tie.Need-wrapping-sub-usize-requires invariant-loop decreases-loop
-wrapping-sub-usize-requires c κs = tt
+wrapping_sub_usize-requires : tie.Need-wrapping_sub_usize-requires invariant-loop-op decreases-loop-op
+wrapping_sub_usize-requires c κs = tt
 
-wrapping-add-usize-requires-2 : tie.Need-wrapping-add-usize-requires-2 invariant-loop decreases-loop
-wrapping-add-usize-requires-2 c κs = tt
+wrapping_add_usize-requires-2 : tie.Need-wrapping_add_usize-requires-2 invariant-loop-op decreases-loop-op
+wrapping_add_usize-requires-2 c κs = tt
 
-div-result : tie.Need-nonzero-div-result invariant-loop decreases-loop
-div-result c = omega (arith, c.before.before.larger3.ensures)
+nonzero_div-result : tie.Need-nonzero_div-result invariant-loop-op decreases-loop-op
+nonzero_div-result c = omega (arith, c.before.before.larger-ii.ensures)
 
-returns : tie.Need-returns invariant-loop decreases-loop
+returns : tie.Need-returns invariant-loop-op decreases-loop-op
 returns c = tt
 
 pub stages_spec : {M : Type 1} → statement M
 stages_spec =
     tie.close
     (tie.spec
-    invariant-loop
-    decreases-loop
-    loop-holds
-    start-of-requires
+    invariant-loop-op
+    decreases-loop-op
+    loop-op-init
+    start_of-s-requires
     latency-requires
-    larger-requires
-    cast-wrapping-add-usize
-    wrapping-add-usize-requires
-    larger-requires-2
-    add-op
-    loop-less
-    loop-again
-    larger-requires-3
-    wrapping-sub-usize-requires
-    wrapping-add-usize-requires-2
-    div-result
+    larger-cycles-requires
+    overflow_cast-s
+    wrapping_add_usize-requires
+    larger-free-requires
+    overflow_add-op
+    loop-op-smaller
+    loop-op-preserved
+    larger-ii-requires
+    wrapping_sub_usize-requires
+    wrapping_add_usize-requires-2
+    nonzero_div-result
     returns)

@@ -3,87 +3,87 @@ use Rattle.std.proofs.Common.{◌-◌, arith}
 use Rattle.search_random.proofs.words.sweep.Statement.{statement}
 use Rattle.search_random.proofs.words.sweep.Tie as tie
 
-abbrev invariant-loop : tie.invariant-loop
-invariant-loop d allowance least sum₀ interval₀ sum interval = Unit
+abbrev invariant-loop-interval : tie.invariant-loop-interval
+invariant-loop-interval d allowance least sum₀ interval₀ sum interval = Unit
 
-abbrev decreases-loop : tie.decreases-loop
-decreases-loop d allowance least sum₀ interval₀ sum interval = 6 - interval
+abbrev decreases-loop-interval : tie.decreases-loop-interval
+decreases-loop-interval d allowance least sum₀ interval₀ sum interval = 6 - interval
 
-loop-holds : tie.Need-loop-init invariant-loop decreases-loop
-loop-holds c = tt
+loop-interval-init : tie.Need-loop-interval-init invariant-loop-interval decreases-loop-interval
+loop-interval-init c = tt
 
-add-interval : tie.Need-overflow-add-interval invariant-loop decreases-loop
-add-interval c = omega arith
+overflow_add-interval : tie.Need-overflow_add-interval invariant-loop-interval decreases-loop-interval
+overflow_add-interval c = omega arith
 
-cast-if1 : tie.Need-overflow-cast-if1 invariant-loop decreases-loop
-cast-if1 c = omega arith
+overflow_cast-interval : tie.Need-overflow_cast-interval invariant-loop-interval decreases-loop-interval
+overflow_cast-interval c = omega arith
 
-first-legal-requires : tie.Need-first-legal-requires invariant-loop decreases-loop
-first-legal-requires c κs = tt
+first_legal-first-requires : tie.Need-first_legal-first-requires invariant-loop-interval decreases-loop-interval
+first_legal-first-requires c κs = tt
 
-probes-requires : tie.Need-probes-requires invariant-loop decreases-loop
+probes-requires : tie.Need-probes-requires invariant-loop-interval decreases-loop-interval
 probes-requires c κs = tt
 
-wrapping-add-usize-requires : tie.Need-wrapping-add-usize-requires invariant-loop decreases-loop
-wrapping-add-usize-requires c κs = tt
+wrapping_add_usize-sum-requires : tie.Need-wrapping_add_usize-sum-requires invariant-loop-interval decreases-loop-interval
+wrapping_add_usize-sum-requires c κs = tt
 
-cast-t13 : tie.Need-overflow-cast-t13 invariant-loop decreases-loop
-cast-t13 c = omega arith
+overflow_cast-interval-then-allowance-sum : tie.Need-overflow_cast-interval-then-allowance-sum invariant-loop-interval decreases-loop-interval
+overflow_cast-interval-then-allowance-sum c = omega arith
 
-refused-requires : tie.Need-refused-requires invariant-loop decreases-loop
+refused-requires : tie.Need-refused-requires invariant-loop-interval decreases-loop-interval
 refused-requires c κs = tt
 
-returns : tie.Need-returns invariant-loop decreases-loop
-returns c = tt
+returns-then-allowance-sum : tie.Need-returns-then-allowance-sum invariant-loop-interval decreases-loop-interval
+returns-then-allowance-sum c = tt
 
-solved-requires : tie.Need-solved-requires invariant-loop decreases-loop
+solved-requires : tie.Need-solved-requires invariant-loop-interval decreases-loop-interval
 solved-requires c κs = tt
 
-returns-2 : tie.Need-returns-2 invariant-loop decreases-loop
-returns-2 c = tt
+returns-then-first-lt-NONE : tie.Need-returns-then-first-lt-NONE invariant-loop-interval decreases-loop-interval
+returns-then-first-lt-NONE c = tt
 
-loop-less : tie.Need-loop-smaller invariant-loop decreases-loop
-loop-less c = omega arith
+loop-interval-smaller-else-first-lt-NONE : tie.Need-loop-interval-smaller-else-first-lt-NONE invariant-loop-interval decreases-loop-interval
+loop-interval-smaller-else-first-lt-NONE c = omega arith
 
-loop-again : tie.Need-loop-preserved invariant-loop decreases-loop
-loop-again c = tt
+loop-interval-preserved-else-first-lt-NONE : tie.Need-loop-interval-preserved-else-first-lt-NONE invariant-loop-interval decreases-loop-interval
+loop-interval-preserved-else-first-lt-NONE c = tt
 
-loop-less-2 : tie.Need-loop-smaller-2 invariant-loop decreases-loop
-loop-less-2 c = omega arith
+loop-interval-smaller : tie.Need-loop-interval-smaller invariant-loop-interval decreases-loop-interval
+loop-interval-smaller c = omega arith
 
-loop-again-2 : tie.Need-loop-preserved-2 invariant-loop decreases-loop
-loop-again-2 c = tt
+loop-interval-preserved : tie.Need-loop-interval-preserved invariant-loop-interval decreases-loop-interval
+loop-interval-preserved c = tt
 
-cast-t15 : tie.Need-overflow-cast-t15 invariant-loop decreases-loop
-cast-t15 c = omega arith
+overflow_cast-d : tie.Need-overflow_cast-d invariant-loop-interval decreases-loop-interval
+overflow_cast-d c = omega arith
 
-refused-requires-2 : tie.Need-refused-requires-2 invariant-loop decreases-loop
+refused-requires-2 : tie.Need-refused-requires-2 invariant-loop-interval decreases-loop-interval
 refused-requires-2 c κs = tt
 
-returns-3 : tie.Need-returns-3 invariant-loop decreases-loop
-returns-3 c = tt
+returns : tie.Need-returns invariant-loop-interval decreases-loop-interval
+returns c = tt
 
 pub sweep_spec : {M : Type 1} → statement M
 sweep_spec =
     tie.close
     (tie.spec
-    invariant-loop
-    decreases-loop
-    loop-holds
-    add-interval
-    cast-if1
-    first-legal-requires
+    invariant-loop-interval
+    decreases-loop-interval
+    loop-interval-init
+    overflow_add-interval
+    overflow_cast-interval
+    first_legal-first-requires
     probes-requires
-    wrapping-add-usize-requires
-    cast-t13
+    wrapping_add_usize-sum-requires
+    overflow_cast-interval-then-allowance-sum
     refused-requires
-    returns
+    returns-then-allowance-sum
     solved-requires
-    returns-2
-    loop-less
-    loop-again
-    loop-less-2
-    loop-again-2
-    cast-t15
+    returns-then-first-lt-NONE
+    loop-interval-smaller-else-first-lt-NONE
+    loop-interval-preserved-else-first-lt-NONE
+    loop-interval-smaller
+    loop-interval-preserved
+    overflow_cast-d
     refused-requires-2
-    returns-3)
+    returns)

@@ -11,47 +11,47 @@ use Rattle.reservation.proofs.Stores.{set_next}
 use Rattle.session.proofs.store.copy_file.Statement.{statement}
 use Rattle.session.proofs.store.copy_file.Tie as tie
 
-abbrev invariant-loop : tie.invariant-loop
-invariant-loop file store₀ i₀ store i = (i ≤ length file) × (store ≡ take i file ++ drop i store₀) × (length store ≡ length store₀)
+abbrev invariant-loop-i : tie.invariant-loop-i
+invariant-loop-i file store₀ i₀ store i = (i ≤ length file) × (store ≡ take i file ++ drop i store₀) × (length store ≡ length store₀)
 
-abbrev decreases-loop : tie.decreases-loop
-decreases-loop file store₀ i₀ store i = length file - i
+abbrev decreases-loop-i : tie.decreases-loop-i
+decreases-loop-i file store₀ i₀ store i = length file - i
 
-loop-holds : tie.Need-loop-init invariant-loop decreases-loop
-loop-holds c = (omega arith, refl, refl)
+loop-i-init : tie.Need-loop-i-init invariant-loop-i decreases-loop-i
+loop-i-init c = (omega arith, refl, refl)
 
-shared-slice-read-store : tie.Need-shared-slice-read-store invariant-loop decreases-loop
-shared-slice-read-store c = omega arith
+bounds-file-i : tie.Need-bounds-file-i invariant-loop-i decreases-loop-i
+bounds-file-i c = omega arith
 
-element-write-store : tie.Need-element-write-store invariant-loop decreases-loop
-element-write-store c = omega arith
+bounds-store-i : tie.Need-bounds-store-i invariant-loop-i decreases-loop-i
+bounds-store-i c = omega arith
 
-add-i : tie.Need-overflow-add-i invariant-loop decreases-loop
-add-i c = omega arith
+overflow_add-i : tie.Need-overflow_add-i invariant-loop-i decreases-loop-i
+overflow_add-i c = omega arith
 
-loop-less : tie.Need-loop-smaller invariant-loop decreases-loop
-loop-less c = omega arith
+loop-i-smaller : tie.Need-loop-i-smaller invariant-loop-i decreases-loop-i
+loop-i-smaller c = omega arith
 
-loop-again : tie.Need-loop-preserved invariant-loop decreases-loop
-loop-again c =
+loop-i-preserved : tie.Need-loop-i-preserved invariant-loop-i decreases-loop-i
+loop-i-preserved c =
     let g = c.before.before in
     let f = g.before.args.file.now in
     let old = g.before.args.store.now in
-    let j = g.loop.i in
+    let j = g.loop-i.i in
     let a = get_or f j 0 in
     let l : j < length f = omega arith in (
       omega arith,
-      ap (λ (s : List ℕ). set s j a) g.loop.invariant.1
+      ap (λ (s : List ℕ). set s j a) g.loop-i.invariant.1
           ∙ set_next (take j f) old j a (length-take-le j f (omega arith)) (omega arith)
           ∙ ap (λ (s : List ℕ). s ++ drop (j + 1) old) (sym (take-suc f j 0 l) ∙ ap (λ (k : ℕ). take k f) (sym (add-one j))),
-      length-set g.loop.store j a ∙ g.loop.invariant.2,
+      length-set g.loop-i.store j a ∙ g.loop-i.invariant.2,
     )
 
-returns : tie.Need-returns invariant-loop decreases-loop
+returns : tie.Need-returns invariant-loop-i decreases-loop-i
 returns c =
     let a = c.before.before.args in
-    let done : c.before.loop.i ≡ length a.file.now = omega arith in
-    c.before.loop.invariant.1
+    let done : c.before.loop-i.i ≡ length a.file.now = omega arith in
+    c.before.loop-i.invariant.1
     ∙ ap (λ (k : ℕ). take k a.file.now ++ drop k a.store.now) done
     ∙ ap (λ (l : List ℕ). l ++ drop (length a.file.now) a.store.now) (take-length a.file.now)
 
@@ -59,12 +59,12 @@ pub copy_file_spec : {M : Type 1} → statement M
 copy_file_spec =
     tie.close
     (tie.spec
-    invariant-loop
-    decreases-loop
-    loop-holds
-    shared-slice-read-store
-    element-write-store
-    add-i
-    loop-less
-    loop-again
+    invariant-loop-i
+    decreases-loop-i
+    loop-i-init
+    bounds-file-i
+    bounds-store-i
+    overflow_add-i
+    loop-i-smaller
+    loop-i-preserved
     returns)

@@ -6,63 +6,59 @@ use lib.ListN.{length}
 use Rattle.session_cases.proofs.show.each.Statement.{statement}
 use Rattle.session_cases.proofs.show.each.Tie as tie
 
-abbrev invariant-loop : tie.invariant-loop
-invariant-loop rows shown₀ i₀ t4 shown i = shown ≤ i
+abbrev invariant-loop-i : tie.invariant-loop-i
+invariant-loop-i rows shown₀ i₀ t4 shown i = shown ≤ i
 
-abbrev decreases-loop : tie.decreases-loop
-decreases-loop rows shown₀ i₀ t4 shown i = length rows - i
+abbrev decreases-loop-i : tie.decreases-loop-i
+decreases-loop-i rows shown₀ i₀ t4 shown i = length rows - i
 
-loop-holds : tie.Need-loop-init invariant-loop decreases-loop
-loop-holds c = omega arith
+loop-i-init : tie.Need-loop-i-init invariant-loop-i decreases-loop-i
+loop-i-init c = omega arith
 
-mul-row : tie.Need-overflow-mul-row invariant-loop decreases-loop
-mul-row c = omega arith
+offset_bounds-rows-i : tie.Need-offset_bounds-rows-i invariant-loop-i decreases-loop-i
+offset_bounds-rows-i c = omega arith
 
-shared-slice-read-row : tie.Need-shared-slice-read-row invariant-loop decreases-loop
-shared-slice-read-row c = omega arith
+bounds-rows-i : tie.Need-bounds-rows-i invariant-loop-i decreases-loop-i
+bounds-rows-i c = omega arith
 
-row-requires : tie.Need-row-requires invariant-loop decreases-loop
-row-requires c κs = tt
+row-shown-requires : tie.Need-row-shown-requires invariant-loop-i decreases-loop-i
+row-shown-requires c κs = tt
 
-add-shown : tie.Need-overflow-add-shown invariant-loop decreases-loop
-add-shown c = omega arith
+overflow_add-shown : tie.Need-overflow_add-shown invariant-loop-i decreases-loop-i
+overflow_add-shown c = omega arith
 
-add-i : tie.Need-overflow-add-i invariant-loop decreases-loop
-add-i c = omega arith
+overflow_add-i : tie.Need-overflow_add-i invariant-loop-i decreases-loop-i
+overflow_add-i c = omega arith
 
-loop-less : tie.Need-loop-smaller invariant-loop decreases-loop
-loop-less c = omega arith
+loop-i-smaller : tie.Need-loop-i-smaller invariant-loop-i decreases-loop-i
+loop-i-smaller c = omega arith
 
-loop-again : tie.Need-loop-preserved invariant-loop decreases-loop
-loop-again c = omega arith
+loop-i-preserved : tie.Need-loop-i-preserved invariant-loop-i decreases-loop-i
+loop-i-preserved c = omega arith
 
-slice-aggregate-write-all : tie.Need-slice-aggregate-write-all invariant-loop decreases-loop
-slice-aggregate-write-all c = refl
+write_all-requires : tie.Need-write_all-requires invariant-loop-i decreases-loop-i
+write_all-requires c κs = tt
 
-write-all-requires : tie.Need-write-all-requires invariant-loop decreases-loop
-write-all-requires c κs = tt
+returns-then-shown-eq0 : tie.Need-returns-then-shown-eq0 invariant-loop-i decreases-loop-i
+returns-then-shown-eq0 c = tt
 
-returns : tie.Need-returns invariant-loop decreases-loop
-returns c = tt
-
-returns-2 : tie.Need-returns-2 invariant-loop decreases-loop
-returns-2 c = tt
+returns-else-shown-eq0 : tie.Need-returns-else-shown-eq0 invariant-loop-i decreases-loop-i
+returns-else-shown-eq0 c = tt
 
 pub each_spec : {M : Type 1} → statement M
 each_spec =
     tie.close
     (tie.spec
-    invariant-loop
-    decreases-loop
-    loop-holds
-    mul-row
-    shared-slice-read-row
-    row-requires
-    add-shown
-    add-i
-    loop-less
-    loop-again
-    slice-aggregate-write-all
-    write-all-requires
-    returns
-    returns-2)
+    invariant-loop-i
+    decreases-loop-i
+    loop-i-init
+    offset_bounds-rows-i
+    bounds-rows-i
+    row-shown-requires
+    overflow_add-shown
+    overflow_add-i
+    loop-i-smaller
+    loop-i-preserved
+    write_all-requires
+    returns-then-shown-eq0
+    returns-else-shown-eq0)

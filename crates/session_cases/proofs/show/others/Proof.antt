@@ -5,63 +5,63 @@ use lib.ListN.{length}
 use Rattle.session_cases.proofs.show.others.Statement.{statement}
 use Rattle.session_cases.proofs.show.others.Tie as tie
 
-abbrev invariant-loop : tie.invariant-loop
-invariant-loop numbers usual first template nothing shown₀ i₀ shown i = shown ≤ i
+abbrev invariant-loop-i : tie.invariant-loop-i
+invariant-loop-i numbers usual first template nothing shown₀ i₀ shown i = shown ≤ i
 
-abbrev decreases-loop : tie.decreases-loop
-decreases-loop numbers usual first template nothing shown₀ i₀ shown i = length numbers - i
+abbrev decreases-loop-i : tie.decreases-loop-i
+decreases-loop-i numbers usual first template nothing shown₀ i₀ shown i = length numbers - i
 
-loop-holds : tie.Need-loop-init invariant-loop decreases-loop
-loop-holds c = omega arith
+loop-i-init : tie.Need-loop-i-init invariant-loop-i decreases-loop-i
+loop-i-init c = omega arith
 
-add-other : tie.Need-overflow-add-other invariant-loop decreases-loop
-add-other c = omega arith
+overflow_add-first : tie.Need-overflow_add-first invariant-loop-i decreases-loop-i
+overflow_add-first c = omega arith
 
-mul-other : tie.Need-overflow-mul-other invariant-loop decreases-loop
-mul-other c = omega arith
+offset_bounds-numbers-i : tie.Need-offset_bounds-numbers-i invariant-loop-i decreases-loop-i
+offset_bounds-numbers-i c = omega arith
 
-shared-slice-read-other : tie.Need-shared-slice-read-other invariant-loop decreases-loop
-shared-slice-read-other c = omega arith
+bounds-numbers-i : tie.Need-bounds-numbers-i invariant-loop-i decreases-loop-i
+bounds-numbers-i c = omega arith
 
-other-requires : tie.Need-other-requires invariant-loop decreases-loop
-other-requires c κs = tt
+other-shown-requires : tie.Need-other-shown-requires invariant-loop-i decreases-loop-i
+other-shown-requires c κs = tt
 
-add-shown : tie.Need-overflow-add-shown invariant-loop decreases-loop
-add-shown c = omega arith
+overflow_add-shown : tie.Need-overflow_add-shown invariant-loop-i decreases-loop-i
+overflow_add-shown c = omega arith
 
-add-i : tie.Need-overflow-add-i invariant-loop decreases-loop
-add-i c = omega arith
+overflow_add-i : tie.Need-overflow_add-i invariant-loop-i decreases-loop-i
+overflow_add-i c = omega arith
 
-loop-less : tie.Need-loop-smaller invariant-loop decreases-loop
-loop-less c = omega arith
+loop-i-smaller : tie.Need-loop-i-smaller invariant-loop-i decreases-loop-i
+loop-i-smaller c = omega arith
 
-loop-again : tie.Need-loop-preserved invariant-loop decreases-loop
-loop-again c = omega arith
+loop-i-preserved : tie.Need-loop-i-preserved invariant-loop-i decreases-loop-i
+loop-i-preserved c = omega arith
 
-write-all-requires : tie.Need-write-all-requires invariant-loop decreases-loop
-write-all-requires c κs = tt
+write_all-requires : tie.Need-write_all-requires invariant-loop-i decreases-loop-i
+write_all-requires c κs = tt
 
-returns : tie.Need-returns invariant-loop decreases-loop
-returns c = tt
+returns-then-shown-eq0 : tie.Need-returns-then-shown-eq0 invariant-loop-i decreases-loop-i
+returns-then-shown-eq0 c = tt
 
-returns-2 : tie.Need-returns-2 invariant-loop decreases-loop
-returns-2 c = tt
+returns-else-shown-eq0 : tie.Need-returns-else-shown-eq0 invariant-loop-i decreases-loop-i
+returns-else-shown-eq0 c = tt
 
 pub others_spec : {M : Type 1} → statement M
 others_spec =
     tie.close
     (tie.spec
-    invariant-loop
-    decreases-loop
-    loop-holds
-    add-other
-    mul-other
-    shared-slice-read-other
-    other-requires
-    add-shown
-    add-i
-    loop-less
-    loop-again
-    write-all-requires
-    returns
-    returns-2)
+    invariant-loop-i
+    decreases-loop-i
+    loop-i-init
+    overflow_add-first
+    offset_bounds-numbers-i
+    bounds-numbers-i
+    other-shown-requires
+    overflow_add-shown
+    overflow_add-i
+    loop-i-smaller
+    loop-i-preserved
+    write_all-requires
+    returns-then-shown-eq0
+    returns-else-shown-eq0)

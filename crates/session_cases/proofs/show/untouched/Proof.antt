@@ -5,47 +5,47 @@ use lib.ListN.{length}
 use Rattle.session_cases.proofs.show.untouched.Statement.{statement}
 use Rattle.session_cases.proofs.show.untouched.Tie as tie
 
-abbrev invariant-loop : tie.invariant-loop
-invariant-loop rows i₀ i = Unit
+abbrev invariant-loop-i : tie.invariant-loop-i
+invariant-loop-i rows i₀ i = Unit
 
-abbrev decreases-loop : tie.decreases-loop
-decreases-loop rows i₀ i = length rows - i
+abbrev decreases-loop-i : tie.decreases-loop-i
+decreases-loop-i rows i₀ i = length rows - i
 
-loop-holds : tie.Need-loop-init invariant-loop decreases-loop
-loop-holds c = tt
+loop-i-init : tie.Need-loop-i-init invariant-loop-i decreases-loop-i
+loop-i-init c = tt
 
-mul-if1 : tie.Need-overflow-mul-if1 invariant-loop decreases-loop
-mul-if1 c = omega arith
+offset_bounds-rows-i : tie.Need-offset_bounds-rows-i invariant-loop-i decreases-loop-i
+offset_bounds-rows-i c = omega arith
 
-shared-slice-read-if1 : tie.Need-shared-slice-read-if1 invariant-loop decreases-loop
-shared-slice-read-if1 c = omega arith
+bounds-rows-i : tie.Need-bounds-rows-i invariant-loop-i decreases-loop-i
+bounds-rows-i c = omega arith
 
-returns : tie.Need-returns invariant-loop decreases-loop
+returns-then-rows-i : tie.Need-returns-then-rows-i invariant-loop-i decreases-loop-i
+returns-then-rows-i c = tt
+
+overflow_add-i : tie.Need-overflow_add-i invariant-loop-i decreases-loop-i
+overflow_add-i c = omega arith
+
+loop-i-smaller : tie.Need-loop-i-smaller invariant-loop-i decreases-loop-i
+loop-i-smaller c = omega arith
+
+loop-i-preserved : tie.Need-loop-i-preserved invariant-loop-i decreases-loop-i
+loop-i-preserved c = tt
+
+returns : tie.Need-returns invariant-loop-i decreases-loop-i
 returns c = tt
-
-add-i : tie.Need-overflow-add-i invariant-loop decreases-loop
-add-i c = omega arith
-
-loop-less : tie.Need-loop-smaller invariant-loop decreases-loop
-loop-less c = omega arith
-
-loop-again : tie.Need-loop-preserved invariant-loop decreases-loop
-loop-again c = tt
-
-returns-2 : tie.Need-returns-2 invariant-loop decreases-loop
-returns-2 c = tt
 
 pub untouched_spec : {M : Type 1} → statement M
 untouched_spec =
     tie.close
     (tie.spec
-    invariant-loop
-    decreases-loop
-    loop-holds
-    mul-if1
-    shared-slice-read-if1
-    returns
-    add-i
-    loop-less
-    loop-again
-    returns-2)
+    invariant-loop-i
+    decreases-loop-i
+    loop-i-init
+    offset_bounds-rows-i
+    bounds-rows-i
+    returns-then-rows-i
+    overflow_add-i
+    loop-i-smaller
+    loop-i-preserved
+    returns)

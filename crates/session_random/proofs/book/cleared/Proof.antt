@@ -3,59 +3,59 @@ use Rattle.std.proofs.Common.{◌-◌, arith}
 use Rattle.session_random.proofs.book.cleared.Statement.{statement}
 use Rattle.session_random.proofs.book.cleared.Tie as tie
 
-abbrev invariant-loop : tie.invariant-loop
-invariant-loop d op starts out₀ mask₀ bit₀ p₀ out mask bit p = Unit
+abbrev invariant-loop-p : tie.invariant-loop-p
+invariant-loop-p d op starts out₀ mask₀ bit₀ p₀ out mask bit p = Unit
 
-abbrev decreases-loop : tie.decreases-loop
-decreases-loop d op starts out₀ mask₀ bit₀ p₀ out mask bit p = 6 - p
+abbrev decreases-loop-p : tie.decreases-loop-p
+decreases-loop-p d op starts out₀ mask₀ bit₀ p₀ out mask bit p = 6 - p
 
-loop-holds : tie.Need-loop-init invariant-loop decreases-loop
-loop-holds c = tt
+loop-p-init : tie.Need-loop-p-init invariant-loop-p decreases-loop-p
+loop-p-init c = tt
 
-only-requires : tie.Need-only-requires invariant-loop decreases-loop
-only-requires c κs = tt
+only-pair-requires : tie.Need-only-pair-requires invariant-loop-p decreases-loop-p
+only-pair-requires c κs = tt
 
-fault-requires : tie.Need-fault-requires invariant-loop decreases-loop
+fault-requires : tie.Need-fault-requires invariant-loop-p decreases-loop-p
 fault-requires c κs = tt
 
-mul-out : tie.Need-overflow-mul-out invariant-loop decreases-loop
-mul-out c = omega arith
+offset_bounds-out-p : tie.Need-offset_bounds-out-p invariant-loop-p decreases-loop-p
+offset_bounds-out-p c = omega arith
 
-array-write-out : tie.Need-array-write-out invariant-loop decreases-loop
-array-write-out c = omega arith
+bounds-out-p : tie.Need-bounds-out-p invariant-loop-p decreases-loop-p
+bounds-out-p c = omega arith
 
-wrapping-add-usize-requires : tie.Need-wrapping-add-usize-requires invariant-loop decreases-loop
-wrapping-add-usize-requires c κs = tt
+wrapping_add_usize-mask-requires : tie.Need-wrapping_add_usize-mask-requires invariant-loop-p decreases-loop-p
+wrapping_add_usize-mask-requires c κs = tt
 
-wrapping-add-usize-requires-2 : tie.Need-wrapping-add-usize-requires-2 invariant-loop decreases-loop
-wrapping-add-usize-requires-2 c κs = tt
+wrapping_add_usize-bit-requires : tie.Need-wrapping_add_usize-bit-requires invariant-loop-p decreases-loop-p
+wrapping_add_usize-bit-requires c κs = tt
 
-add-p : tie.Need-overflow-add-p invariant-loop decreases-loop
-add-p c = omega arith
+overflow_add-p : tie.Need-overflow_add-p invariant-loop-p decreases-loop-p
+overflow_add-p c = omega arith
 
-loop-less : tie.Need-loop-smaller invariant-loop decreases-loop
-loop-less c = omega arith
+loop-p-smaller : tie.Need-loop-p-smaller invariant-loop-p decreases-loop-p
+loop-p-smaller c = omega arith
 
-loop-again : tie.Need-loop-preserved invariant-loop decreases-loop
-loop-again c = tt
+loop-p-preserved : tie.Need-loop-p-preserved invariant-loop-p decreases-loop-p
+loop-p-preserved c = tt
 
-returns : tie.Need-returns invariant-loop decreases-loop
+returns : tie.Need-returns invariant-loop-p decreases-loop-p
 returns c = tt
 
 pub cleared_spec : {M : Type 1} → statement M
 cleared_spec =
     tie.close
     (tie.spec
-    invariant-loop
-    decreases-loop
-    loop-holds
-    only-requires
+    invariant-loop-p
+    decreases-loop-p
+    loop-p-init
+    only-pair-requires
     fault-requires
-    mul-out
-    array-write-out
-    wrapping-add-usize-requires
-    wrapping-add-usize-requires-2
-    add-p
-    loop-less
-    loop-again
+    offset_bounds-out-p
+    bounds-out-p
+    wrapping_add_usize-mask-requires
+    wrapping_add_usize-bit-requires
+    overflow_add-p
+    loop-p-smaller
+    loop-p-preserved
     returns)

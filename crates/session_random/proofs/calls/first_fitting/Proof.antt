@@ -3,51 +3,51 @@ use Rattle.std.proofs.Common.{◌-◌, arith}
 use Rattle.session_random.proofs.calls.first_fitting.Statement.{statement}
 use Rattle.session_random.proofs.calls.first_fitting.Tie as tie
 
-abbrev invariant-loop : tie.invariant-loop
-invariant-loop d b op at s₀ k₀ s k = Unit
+abbrev invariant-loop-k : tie.invariant-loop-k
+invariant-loop-k d b op at s₀ k₀ s k = Unit
 
-abbrev decreases-loop : tie.decreases-loop
-decreases-loop d b op at s₀ k₀ s k = 12 - k
+abbrev decreases-loop-k : tie.decreases-loop-k
+decreases-loop-k d b op at s₀ k₀ s k = 12 - k
 
-loop-holds : tie.Need-loop-init invariant-loop decreases-loop
-loop-holds c = tt
+loop-k-init : tie.Need-loop-k-init invariant-loop-k decreases-loop-k
+loop-k-init c = tt
 
-fits-requires : tie.Need-fits-requires invariant-loop decreases-loop
+fits-requires : tie.Need-fits-requires invariant-loop-k decreases-loop-k
 fits-requires c κs = tt
 
-returns : tie.Need-returns invariant-loop decreases-loop
+returns-then-fits : tie.Need-returns-then-fits invariant-loop-k decreases-loop-k
+returns-then-fits c = tt
+
+overflow_cast-d : tie.Need-overflow_cast-d invariant-loop-k decreases-loop-k
+overflow_cast-d c = omega arith
+
+behind-s-requires : tie.Need-behind-s-requires invariant-loop-k decreases-loop-k
+behind-s-requires c κs = tt
+
+overflow_add-k : tie.Need-overflow_add-k invariant-loop-k decreases-loop-k
+overflow_add-k c = omega arith
+
+loop-k-smaller : tie.Need-loop-k-smaller invariant-loop-k decreases-loop-k
+loop-k-smaller c = omega arith
+
+loop-k-preserved : tie.Need-loop-k-preserved invariant-loop-k decreases-loop-k
+loop-k-preserved c = tt
+
+returns : tie.Need-returns invariant-loop-k decreases-loop-k
 returns c = tt
-
-cast-behind : tie.Need-overflow-cast-behind invariant-loop decreases-loop
-cast-behind c = omega arith
-
-behind-requires : tie.Need-behind-requires invariant-loop decreases-loop
-behind-requires c κs = tt
-
-add-k : tie.Need-overflow-add-k invariant-loop decreases-loop
-add-k c = omega arith
-
-loop-less : tie.Need-loop-smaller invariant-loop decreases-loop
-loop-less c = omega arith
-
-loop-again : tie.Need-loop-preserved invariant-loop decreases-loop
-loop-again c = tt
-
-returns-2 : tie.Need-returns-2 invariant-loop decreases-loop
-returns-2 c = tt
 
 pub first_fitting_spec : {M : Type 1} → statement M
 first_fitting_spec =
     tie.close
     (tie.spec
-    invariant-loop
-    decreases-loop
-    loop-holds
+    invariant-loop-k
+    decreases-loop-k
+    loop-k-init
     fits-requires
-    returns
-    cast-behind
-    behind-requires
-    add-k
-    loop-less
-    loop-again
-    returns-2)
+    returns-then-fits
+    overflow_cast-d
+    behind-s-requires
+    overflow_add-k
+    loop-k-smaller
+    loop-k-preserved
+    returns)

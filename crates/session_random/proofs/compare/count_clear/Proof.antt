@@ -3,51 +3,51 @@ use Rattle.std.proofs.Common.{◌-◌, arith}
 use Rattle.session_random.proofs.compare.count_clear.Statement.{statement}
 use Rattle.session_random.proofs.compare.count_clear.Tie as tie
 
-abbrev invariant-loop : tie.invariant-loop
-invariant-loop rows interval bit n₀ i₀ n i = Unit
+abbrev invariant-loop-i : tie.invariant-loop-i
+invariant-loop-i rows interval bit n₀ i₀ n i = Unit
 
-abbrev decreases-loop : tie.decreases-loop
-decreases-loop rows interval bit n₀ i₀ n i = 8 - i
+abbrev decreases-loop-i : tie.decreases-loop-i
+decreases-loop-i rows interval bit n₀ i₀ n i = 8 - i
 
-loop-holds : tie.Need-loop-init invariant-loop decreases-loop
-loop-holds c = tt
+loop-i-init : tie.Need-loop-i-init invariant-loop-i decreases-loop-i
+loop-i-init c = tt
 
-mul-is-clear : tie.Need-overflow-mul-is-clear invariant-loop decreases-loop
-mul-is-clear c = omega arith
+offset_bounds-rows-i : tie.Need-offset_bounds-rows-i invariant-loop-i decreases-loop-i
+offset_bounds-rows-i c = omega arith
 
-element-copy-out-is-clear : tie.Need-element-copy-out-is-clear invariant-loop decreases-loop
-element-copy-out-is-clear c = omega arith
+bounds-rows-i : tie.Need-bounds-rows-i invariant-loop-i decreases-loop-i
+bounds-rows-i c = omega arith
 
-is-clear-requires : tie.Need-is-clear-requires invariant-loop decreases-loop
-is-clear-requires c κs = omega arith
+is_clear-requires : tie.Need-is_clear-requires invariant-loop-i decreases-loop-i
+is_clear-requires c κs = omega arith
 
-wrapping-add-u16-requires : tie.Need-wrapping-add-u16-requires invariant-loop decreases-loop
-wrapping-add-u16-requires c κs = tt
+wrapping_add_u16-n-requires : tie.Need-wrapping_add_u16-n-requires invariant-loop-i decreases-loop-i
+wrapping_add_u16-n-requires c κs = tt
 
-add-i : tie.Need-overflow-add-i invariant-loop decreases-loop
-add-i c = omega arith
+overflow_add-i : tie.Need-overflow_add-i invariant-loop-i decreases-loop-i
+overflow_add-i c = omega arith
 
-loop-less : tie.Need-loop-smaller invariant-loop decreases-loop
-loop-less c = omega arith
+loop-i-smaller : tie.Need-loop-i-smaller invariant-loop-i decreases-loop-i
+loop-i-smaller c = omega arith
 
-loop-again : tie.Need-loop-preserved invariant-loop decreases-loop
-loop-again c = tt
+loop-i-preserved : tie.Need-loop-i-preserved invariant-loop-i decreases-loop-i
+loop-i-preserved c = tt
 
-returns : tie.Need-returns invariant-loop decreases-loop
+returns : tie.Need-returns invariant-loop-i decreases-loop-i
 returns c = tt
 
 pub count_clear_spec : {M : Type 1} → statement M
 count_clear_spec =
     tie.close
     (tie.spec
-    invariant-loop
-    decreases-loop
-    loop-holds
-    mul-is-clear
-    element-copy-out-is-clear
-    is-clear-requires
-    wrapping-add-u16-requires
-    add-i
-    loop-less
-    loop-again
+    invariant-loop-i
+    decreases-loop-i
+    loop-i-init
+    offset_bounds-rows-i
+    bounds-rows-i
+    is_clear-requires
+    wrapping_add_u16-n-requires
+    overflow_add-i
+    loop-i-smaller
+    loop-i-preserved
     returns)

@@ -3,47 +3,47 @@ use Rattle.std.proofs.Common.{◌-◌, arith}
 use Rattle.session_random.proofs.compare.same_free.Statement.{statement}
 use Rattle.session_random.proofs.compare.same_free.Tie as tie
 
-abbrev invariant-loop : tie.invariant-loop
-invariant-loop free rows interval equal₀ i₀ equal i = Unit
+abbrev invariant-loop-i : tie.invariant-loop-i
+invariant-loop-i free rows interval equal₀ i₀ equal i = Unit
 
-abbrev decreases-loop : tie.decreases-loop
-decreases-loop free rows interval equal₀ i₀ equal i = 24 - i
+abbrev decreases-loop-i : tie.decreases-loop-i
+decreases-loop-i free rows interval equal₀ i₀ equal i = 24 - i
 
-loop-holds : tie.Need-loop-init invariant-loop decreases-loop
-loop-holds c = tt
+loop-i-init : tie.Need-loop-i-init invariant-loop-i decreases-loop-i
+loop-i-init c = tt
 
-mul-equal : tie.Need-overflow-mul-equal invariant-loop decreases-loop
-mul-equal c = omega arith
+offset_bounds-free-i : tie.Need-offset_bounds-free-i invariant-loop-i decreases-loop-i
+offset_bounds-free-i c = omega arith
 
-element-copy-out-equal : tie.Need-element-copy-out-equal invariant-loop decreases-loop
-element-copy-out-equal c = omega arith
+bounds-free-i : tie.Need-bounds-free-i invariant-loop-i decreases-loop-i
+bounds-free-i c = omega arith
 
-count-clear-requires : tie.Need-count-clear-requires invariant-loop decreases-loop
-count-clear-requires c κs = omega arith
+count_clear-requires : tie.Need-count_clear-requires invariant-loop-i decreases-loop-i
+count_clear-requires c κs = omega arith
 
-add-i : tie.Need-overflow-add-i invariant-loop decreases-loop
-add-i c = omega arith
+overflow_add-i : tie.Need-overflow_add-i invariant-loop-i decreases-loop-i
+overflow_add-i c = omega arith
 
-loop-less : tie.Need-loop-smaller invariant-loop decreases-loop
-loop-less c = omega arith
+loop-i-smaller : tie.Need-loop-i-smaller invariant-loop-i decreases-loop-i
+loop-i-smaller c = omega arith
 
-loop-again : tie.Need-loop-preserved invariant-loop decreases-loop
-loop-again c = tt
+loop-i-preserved : tie.Need-loop-i-preserved invariant-loop-i decreases-loop-i
+loop-i-preserved c = tt
 
-returns : tie.Need-returns invariant-loop decreases-loop
+returns : tie.Need-returns invariant-loop-i decreases-loop-i
 returns c = tt
 
 pub same_free_spec : {M : Type 1} → statement M
 same_free_spec =
     tie.close
     (tie.spec
-    invariant-loop
-    decreases-loop
-    loop-holds
-    mul-equal
-    element-copy-out-equal
-    count-clear-requires
-    add-i
-    loop-less
-    loop-again
+    invariant-loop-i
+    decreases-loop-i
+    loop-i-init
+    offset_bounds-free-i
+    bounds-free-i
+    count_clear-requires
+    overflow_add-i
+    loop-i-smaller
+    loop-i-preserved
     returns)

@@ -3,51 +3,51 @@ use Rattle.std.proofs.Common.{◌-◌, arith}
 use Rattle.session_random.proofs.compare.same_rows.Statement.{statement}
 use Rattle.session_random.proofs.compare.same_rows.Tie as tie
 
-abbrev invariant-loop : tie.invariant-loop
-invariant-loop a b equal₀ i₀ equal i = Unit
+abbrev invariant-loop-i : tie.invariant-loop-i
+invariant-loop-i a b equal₀ i₀ equal i = Unit
 
-abbrev decreases-loop : tie.decreases-loop
-decreases-loop a b equal₀ i₀ equal i = 8 - i
+abbrev decreases-loop-i : tie.decreases-loop-i
+decreases-loop-i a b equal₀ i₀ equal i = 8 - i
 
-loop-holds : tie.Need-loop-init invariant-loop decreases-loop
-loop-holds c = tt
+loop-i-init : tie.Need-loop-i-init invariant-loop-i decreases-loop-i
+loop-i-init c = tt
 
-mul-equal : tie.Need-overflow-mul-equal invariant-loop decreases-loop
-mul-equal c = omega arith
+offset_bounds-a-i : tie.Need-offset_bounds-a-i invariant-loop-i decreases-loop-i
+offset_bounds-a-i c = omega arith
 
-element-copy-out-equal : tie.Need-element-copy-out-equal invariant-loop decreases-loop
-element-copy-out-equal c = omega arith
+bounds-a-i : tie.Need-bounds-a-i invariant-loop-i decreases-loop-i
+bounds-a-i c = omega arith
 
-mul-equal-2 : tie.Need-overflow-mul-equal-2 invariant-loop decreases-loop
-mul-equal-2 c = omega arith
+offset_bounds-b-i : tie.Need-offset_bounds-b-i invariant-loop-i decreases-loop-i
+offset_bounds-b-i c = omega arith
 
-element-copy-out-equal-2 : tie.Need-element-copy-out-equal-2 invariant-loop decreases-loop
-element-copy-out-equal-2 c = omega arith
+bounds-b-i : tie.Need-bounds-b-i invariant-loop-i decreases-loop-i
+bounds-b-i c = omega arith
 
-add-i : tie.Need-overflow-add-i invariant-loop decreases-loop
-add-i c = omega arith
+overflow_add-i : tie.Need-overflow_add-i invariant-loop-i decreases-loop-i
+overflow_add-i c = omega arith
 
-loop-less : tie.Need-loop-smaller invariant-loop decreases-loop
-loop-less c = omega arith
+loop-i-smaller : tie.Need-loop-i-smaller invariant-loop-i decreases-loop-i
+loop-i-smaller c = omega arith
 
-loop-again : tie.Need-loop-preserved invariant-loop decreases-loop
-loop-again c = tt
+loop-i-preserved : tie.Need-loop-i-preserved invariant-loop-i decreases-loop-i
+loop-i-preserved c = tt
 
-returns : tie.Need-returns invariant-loop decreases-loop
+returns : tie.Need-returns invariant-loop-i decreases-loop-i
 returns c = tt
 
 pub same_rows_spec : {M : Type 1} → statement M
 same_rows_spec =
     tie.close
     (tie.spec
-    invariant-loop
-    decreases-loop
-    loop-holds
-    mul-equal
-    element-copy-out-equal
-    mul-equal-2
-    element-copy-out-equal-2
-    add-i
-    loop-less
-    loop-again
+    invariant-loop-i
+    decreases-loop-i
+    loop-i-init
+    offset_bounds-a-i
+    bounds-a-i
+    offset_bounds-b-i
+    bounds-b-i
+    overflow_add-i
+    loop-i-smaller
+    loop-i-preserved
     returns)

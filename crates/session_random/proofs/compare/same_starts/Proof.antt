@@ -3,47 +3,47 @@ use Rattle.std.proofs.Common.{◌-◌, arith}
 use Rattle.session_random.proofs.compare.same_starts.Statement.{statement}
 use Rattle.session_random.proofs.compare.same_starts.Tie as tie
 
-abbrev invariant-loop : tie.invariant-loop
-invariant-loop at starts equal₀ i₀ equal i = Unit
+abbrev invariant-loop-i : tie.invariant-loop-i
+invariant-loop-i at starts equal₀ i₀ equal i = Unit
 
-abbrev decreases-loop : tie.decreases-loop
-decreases-loop at starts equal₀ i₀ equal i = 64 - i
+abbrev decreases-loop-i : tie.decreases-loop-i
+decreases-loop-i at starts equal₀ i₀ equal i = 64 - i
 
-loop-holds : tie.Need-loop-init invariant-loop decreases-loop
-loop-holds c = tt
+loop-i-init : tie.Need-loop-i-init invariant-loop-i decreases-loop-i
+loop-i-init c = tt
 
-mul-equal : tie.Need-overflow-mul-equal invariant-loop decreases-loop
-mul-equal c = omega arith
+offset_bounds-at-i : tie.Need-offset_bounds-at-i invariant-loop-i decreases-loop-i
+offset_bounds-at-i c = omega arith
 
-element-copy-out-equal : tie.Need-element-copy-out-equal invariant-loop decreases-loop
-element-copy-out-equal c = omega arith
+bounds-at-i : tie.Need-bounds-at-i invariant-loop-i decreases-loop-i
+bounds-at-i c = omega arith
 
-start-of-requires : tie.Need-start-of-requires invariant-loop decreases-loop
-start-of-requires c κs = tt
+start_of-requires : tie.Need-start_of-requires invariant-loop-i decreases-loop-i
+start_of-requires c κs = tt
 
-add-i : tie.Need-overflow-add-i invariant-loop decreases-loop
-add-i c = omega arith
+overflow_add-i : tie.Need-overflow_add-i invariant-loop-i decreases-loop-i
+overflow_add-i c = omega arith
 
-loop-less : tie.Need-loop-smaller invariant-loop decreases-loop
-loop-less c = omega arith
+loop-i-smaller : tie.Need-loop-i-smaller invariant-loop-i decreases-loop-i
+loop-i-smaller c = omega arith
 
-loop-again : tie.Need-loop-preserved invariant-loop decreases-loop
-loop-again c = tt
+loop-i-preserved : tie.Need-loop-i-preserved invariant-loop-i decreases-loop-i
+loop-i-preserved c = tt
 
-returns : tie.Need-returns invariant-loop decreases-loop
+returns : tie.Need-returns invariant-loop-i decreases-loop-i
 returns c = tt
 
 pub same_starts_spec : {M : Type 1} → statement M
 same_starts_spec =
     tie.close
     (tie.spec
-    invariant-loop
-    decreases-loop
-    loop-holds
-    mul-equal
-    element-copy-out-equal
-    start-of-requires
-    add-i
-    loop-less
-    loop-again
+    invariant-loop-i
+    decreases-loop-i
+    loop-i-init
+    offset_bounds-at-i
+    bounds-at-i
+    start_of-requires
+    overflow_add-i
+    loop-i-smaller
+    loop-i-preserved
     returns)

@@ -7,31 +7,31 @@ use Rattle.model.proofs.Fractions.{Common, common_start, common_next, common_end
 use Rattle.sheet.proofs.fraction.gcd.Statement.{statement}
 use Rattle.sheet.proofs.fraction.gcd.Tie as tie
 
-abbrev invariant-loop : tie.invariant-loop
-invariant-loop a b x₀ y₀ x y = Common a b x y
+abbrev invariant-loop-y : tie.invariant-loop-y
+invariant-loop-y a b x₀ y₀ x y = Common a b x y
 
-abbrev decreases-loop : tie.decreases-loop
-decreases-loop a b x₀ y₀ x y = y
+abbrev decreases-loop-y : tie.decreases-loop-y
+decreases-loop-y a b x₀ y₀ x y = y
 
-loop-holds : tie.Need-loop-init invariant-loop decreases-loop
-loop-holds c = common_start _ _ c.requires
+loop-y-init : tie.Need-loop-y-init invariant-loop-y decreases-loop-y
+loop-y-init c = common_start _ _ c.requires
 
-rem-left : tie.Need-nonzero-rem-left invariant-loop decreases-loop
-rem-left c = omega arith
+nonzero_rem-left : tie.Need-nonzero_rem-left invariant-loop-y decreases-loop-y
+nonzero_rem-left c = omega arith
 
-loop-less : tie.Need-loop-smaller invariant-loop decreases-loop
-loop-less c = mod-lt _ (omega arith)
+loop-y-smaller : tie.Need-loop-y-smaller invariant-loop-y decreases-loop-y
+loop-y-smaller c = mod-lt _ (omega arith)
 
-loop-again : tie.Need-loop-preserved invariant-loop decreases-loop
-loop-again c = common_next (omega arith) c.before.loop.invariant
+loop-y-preserved : tie.Need-loop-y-preserved invariant-loop-y decreases-loop-y
+loop-y-preserved c = common_next (omega arith) c.before.loop-y.invariant
 
-returns : tie.Need-returns invariant-loop decreases-loop
+returns : tie.Need-returns invariant-loop-y decreases-loop-y
 returns c =
     let a = c.before.before.args in
-    let l = c.before.loop in
+    let l = c.before.loop-y in
     let z : l.y ≡ 0 = omega arith in
     let e : l.x ≡ gcd_of a.a a.b = common_end a.a a.b l.x c.before.before.requires (subst (Common a.a a.b l.x) z l.invariant) in
     (e, omega arith)
 
 pub gcd_spec : {M : Type 1} → statement M
-gcd_spec = tie.close (tie.spec invariant-loop decreases-loop loop-holds rem-left loop-less loop-again returns)
+gcd_spec = tie.close (tie.spec invariant-loop-y decreases-loop-y loop-y-init nonzero_rem-left loop-y-smaller loop-y-preserved returns)

@@ -8,59 +8,59 @@ use Rattle.sheet.proofs.Lines.{slots_none, slots_more}
 use Rattle.sheet.proofs.fraction.write_slots.Statement.{statement}
 use Rattle.sheet.proofs.fraction.write_slots.Tie as tie
 
-abbrev invariant-loop : tie.invariant-loop
-invariant-loop slots₀ sums k₀ slots k = (k ≤ 24) × (slots ≡ written 0 (slot_words sums k) slots₀)
+abbrev invariant-loop-k : tie.invariant-loop-k
+invariant-loop-k slots₀ sums k₀ slots k = (k ≤ 24) × (slots ≡ written 0 (slot_words sums k) slots₀)
 
-abbrev decreases-loop : tie.decreases-loop
-decreases-loop slots₀ sums k₀ slots k = 24 - k
+abbrev decreases-loop-k : tie.decreases-loop-k
+decreases-loop-k slots₀ sums k₀ slots k = 24 - k
 
-loop-holds : tie.Need-loop-init invariant-loop decreases-loop
-loop-holds c = (omega arith, slots_none _ _)
+loop-k-init : tie.Need-loop-k-init invariant-loop-k decreases-loop-k
+loop-k-init c = (omega arith, slots_none _ _)
 
-mul-lowest : tie.Need-overflow-mul-lowest invariant-loop decreases-loop
-mul-lowest c = omega arith
+offset_bounds-sums-k : tie.Need-offset_bounds-sums-k invariant-loop-k decreases-loop-k
+offset_bounds-sums-k c = omega arith
 
-element-copy-out-lowest : tie.Need-element-copy-out-lowest invariant-loop decreases-loop
-element-copy-out-lowest c = omega arith
+bounds-sums-k : tie.Need-bounds-sums-k invariant-loop-k decreases-loop-k
+bounds-sums-k c = omega arith
 
-lowest-requires : tie.Need-lowest-requires invariant-loop decreases-loop
-lowest-requires c κs = omega arith
+lowest-f-requires : tie.Need-lowest-f-requires invariant-loop-k decreases-loop-k
+lowest-f-requires c κs = omega arith
 
-mul-slots : tie.Need-overflow-mul-slots invariant-loop decreases-loop
-mul-slots c = omega arith
+overflow_mul-slots : tie.Need-overflow_mul-slots invariant-loop-k decreases-loop-k
+overflow_mul-slots c = omega arith
 
-mul-slots-2 : tie.Need-overflow-mul-slots-2 invariant-loop decreases-loop
-mul-slots-2 c = omega arith
+offset_bounds-slots-k : tie.Need-offset_bounds-slots-k invariant-loop-k decreases-loop-k
+offset_bounds-slots-k c = omega arith
 
-element-write-slots : tie.Need-element-write-slots invariant-loop decreases-loop
-element-write-slots c = omega arith
+bounds-slots-k : tie.Need-bounds-slots-k invariant-loop-k decreases-loop-k
+bounds-slots-k c = omega arith
 
-mul-slots-3 : tie.Need-overflow-mul-slots-3 invariant-loop decreases-loop
-mul-slots-3 c = omega arith
+overflow_mul-slots-in-loop-k : tie.Need-overflow_mul-slots-in-loop-k invariant-loop-k decreases-loop-k
+overflow_mul-slots-in-loop-k c = omega arith
 
-add-slots : tie.Need-overflow-add-slots invariant-loop decreases-loop
-add-slots c = omega arith
+overflow_add-slots : tie.Need-overflow_add-slots invariant-loop-k decreases-loop-k
+overflow_add-slots c = omega arith
 
-mul-slots-4 : tie.Need-overflow-mul-slots-4 invariant-loop decreases-loop
-mul-slots-4 c = omega arith
+offset_bounds-slots-k-in-loop-k : tie.Need-offset_bounds-slots-k-in-loop-k invariant-loop-k decreases-loop-k
+offset_bounds-slots-k-in-loop-k c = omega arith
 
-element-write-slots-2 : tie.Need-element-write-slots-2 invariant-loop decreases-loop
-element-write-slots-2 c = omega arith
+bounds-slots-k-in-loop-k : tie.Need-bounds-slots-k-in-loop-k invariant-loop-k decreases-loop-k
+bounds-slots-k-in-loop-k c = omega arith
 
-add-k : tie.Need-overflow-add-k invariant-loop decreases-loop
-add-k c = omega arith
+overflow_add-k : tie.Need-overflow_add-k invariant-loop-k decreases-loop-k
+overflow_add-k c = omega arith
 
-loop-less : tie.Need-loop-smaller invariant-loop decreases-loop
-loop-less c = omega arith
+loop-k-smaller : tie.Need-loop-k-smaller invariant-loop-k decreases-loop-k
+loop-k-smaller c = omega arith
 
-loop-again : tie.Need-loop-preserved invariant-loop decreases-loop
-loop-again c =
-    let l = c.before.before.before.loop in
-    (omega arith, slots_more c.before.before.before.before.args.t1 l.k c.lowest.result _ l.slots l.invariant.1 c.lowest.ensures)
+loop-k-preserved : tie.Need-loop-k-preserved invariant-loop-k decreases-loop-k
+loop-k-preserved c =
+    let l = c.before.before.before.loop-k in
+    (omega arith, slots_more c.before.before.before.before.args.t1 l.k c.lowest-f.result _ l.slots l.invariant.1 c.lowest-f.ensures)
 
-returns : tie.Need-returns invariant-loop decreases-loop
+returns : tie.Need-returns invariant-loop-k decreases-loop-k
 returns c =
-    let l = c.before.loop in
+    let l = c.before.loop-k in
     let e : l.k ≡ 24 = omega arith in
     rw e at l.invariant.1
 
@@ -68,20 +68,20 @@ pub write_slots_spec : {M : Type 1} → statement M
 write_slots_spec =
     tie.close
     (tie.spec
-    invariant-loop
-    decreases-loop
-    loop-holds
-    mul-lowest
-    element-copy-out-lowest
-    lowest-requires
-    mul-slots
-    mul-slots-2
-    element-write-slots
-    mul-slots-3
-    add-slots
-    mul-slots-4
-    element-write-slots-2
-    add-k
-    loop-less
-    loop-again
+    invariant-loop-k
+    decreases-loop-k
+    loop-k-init
+    offset_bounds-sums-k
+    bounds-sums-k
+    lowest-f-requires
+    overflow_mul-slots
+    offset_bounds-slots-k
+    bounds-slots-k
+    overflow_mul-slots-in-loop-k
+    overflow_add-slots
+    offset_bounds-slots-k-in-loop-k
+    bounds-slots-k-in-loop-k
+    overflow_add-k
+    loop-k-smaller
+    loop-k-preserved
     returns)

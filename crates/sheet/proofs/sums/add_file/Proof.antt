@@ -5,68 +5,68 @@ use Rattle.sheet.proofs.Additions.{found_accepted, adds_found, adds_ended, adds_
 use Rattle.sheet.proofs.sums.add_file.Statement.{statement}
 use Rattle.sheet.proofs.sums.add_file.Tie as tie
 
-slice-aggregate-search : tie.Need-slice-aggregate-search
-slice-aggregate-search c = search rules
+slice_bounds-search-end : tie.Need-slice_bounds-search-end
+slice_bounds-search-end c = search rules
 
-search-requires : tie.Need-search-requires
-search-requires c κs = search rules
+search-answer-requires : tie.Need-search-answer-requires
+search-answer-requires c κs = search rules
 
-enum-known-answer : tie.Need-enum-known-answer
-enum-known-answer c = search rules
+enum_known-answer : tie.Need-enum_known-answer
+enum_known-answer c = search rules
 
 -- the search, from where the answer is looked at
-abbrev searching : tie.After-slice-known2 → tie.After-search
+abbrev searching : tie.After-slice_known-2-1 → tie.After-search-answer
 searching c = c.before.before.before
 
 -- the entry, from there
-abbrev entry : tie.After-search → tie.Start
+abbrev entry : tie.After-search-answer → tie.Start
 entry c = c.before.before.before.before.before
 
-with-schedule-requires : tie.Need-with-schedule-requires
-with-schedule-requires c κs =
+with_schedule-requires : tie.Need-with_schedule-requires
+with_schedule-requires c κs =
     let w = searching c.before.before.before in
-    let a = found_accepted _ _ _ _ _ _ refl w.search.ensures c.before.answer.given.0.0 c.before.answer.given.1 in
+    let a = found_accepted _ _ _ _ _ _ refl w.search-answer.ensures c.before.answer-1.given.0.0 c.before.answer-1.given.1 in
     (a.0, (entry w).pre, a.1)
 
-enum_told : tie.Need-enum-told
-enum_told c = search rules
+enum_told-1 : tie.Need-enum_told-1
+enum_told-1 c = search rules
 
-enum-told-2 : tie.Need-enum-told-2
-enum-told-2 c = search rules
+enum_told-in-Refused : tie.Need-enum_told-in-Refused
+enum_told-in-Refused c = search rules
 
-same_length : tie.Need-same-length
-same_length c = search rules
+shape_of-rows-in-Found : tie.Need-shape_of-rows-in-Found
+shape_of-rows-in-Found c = search rules
 
-returns : tie.Need-returns
-returns c =
+returns-in-Found : tie.Need-returns-in-Found
+returns-in-Found c =
     let w = searching c.before.before.before.before in
-    adds_found _ _ _ _ _ _ refl w.search.ensures _ c.before.before.answer.given.1 _ _ c.with-schedule.ensures
+    adds_found _ _ _ _ _ _ refl w.search-answer.ensures _ c.before.before.answer-1.given.1 _ _ c.with_schedule.ensures
 
-same-length-2 : tie.Need-same-length-2
-same-length-2 c = search rules
+shape_of-rows-in-Ended : tie.Need-shape_of-rows-in-Ended
+shape_of-rows-in-Ended c = search rules
 
-returns-2 : tie.Need-returns-2
-returns-2 c = adds_ended _ _ _ _ _ _ refl (searching c.before.before).search.ensures c.enum_told.given.1 _
+returns-in-Ended : tie.Need-returns-in-Ended
+returns-in-Ended c = adds_ended _ _ _ _ _ _ refl (searching c.before.before).search-answer.ensures c.enum_told-1.given.1 _
 
-same-length-3 : tie.Need-same-length-3
-same-length-3 c = search rules
+shape_of-rows-in-Refused : tie.Need-shape_of-rows-in-Refused
+shape_of-rows-in-Refused c = search rules
 
-returns-3 : tie.Need-returns-3
-returns-3 c = adds_refused _ _ _ _ _ _ refl (searching c.before.before).search.ensures c.enum-told2.given.1 _
+returns-in-Refused : tie.Need-returns-in-Refused
+returns-in-Refused c = adds_refused _ _ _ _ _ _ refl (searching c.before.before).search-answer.ensures c.enum_told-in-Refused-1.given.1 _
 
 pub add_file_spec : {M : Type 1} → statement M
 add_file_spec =
     tie.close
     (tie.spec
-    slice-aggregate-search
-    search-requires
-    enum-known-answer
-    with-schedule-requires
-    enum_told
-    enum-told-2
-    same_length
-    returns
-    same-length-2
-    returns-2
-    same-length-3
-    returns-3)
+    slice_bounds-search-end
+    search-answer-requires
+    enum_known-answer
+    with_schedule-requires
+    enum_told-1
+    enum_told-in-Refused
+    shape_of-rows-in-Found
+    returns-in-Found
+    shape_of-rows-in-Ended
+    returns-in-Ended
+    shape_of-rows-in-Refused
+    returns-in-Refused)

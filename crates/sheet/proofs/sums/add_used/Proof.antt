@@ -9,61 +9,61 @@ use Rattle.sheet.proofs.Additions.{Raised, raised_none, raised_next, raised_all,
 use Rattle.sheet.proofs.sums.add_used.Statement.{statement}
 use Rattle.sheet.proofs.sums.add_used.Tie as tie
 
-abbrev invariant-loop : tie.invariant-loop
-invariant-loop file used₀ k₀ used k = (k ≤ 24) × Raised (total_on (loop_of file)) k used₀ used
+abbrev invariant-loop-k : tie.invariant-loop-k
+invariant-loop-k file used₀ k₀ used k = (k ≤ 24) × Raised (total_on (loop_of file)) k used₀ used
 
-abbrev decreases-loop : tie.decreases-loop
-decreases-loop file used₀ k₀ used k = 24 - k
+abbrev decreases-loop-k : tie.decreases-loop-k
+decreases-loop-k file used₀ k₀ used k = 24 - k
 
-loop-holds : tie.Need-loop-init invariant-loop decreases-loop
-loop-holds c = (omega arith, raised_none _ _)
+loop-k-init : tie.Need-loop-k-init invariant-loop-k decreases-loop-k
+loop-k-init c = (omega arith, raised_none _ _)
 
-mul-used : tie.Need-overflow-mul-used invariant-loop decreases-loop
-mul-used c = omega arith
+offset_bounds-used-k : tie.Need-offset_bounds-used-k invariant-loop-k decreases-loop-k
+offset_bounds-used-k c = omega arith
 
-element-copy-out-used : tie.Need-element-copy-out-used invariant-loop decreases-loop
-element-copy-out-used c = omega arith
+bounds-used-k : tie.Need-bounds-used-k invariant-loop-k decreases-loop-k
+bounds-used-k c = omega arith
 
-add-total-on : tie.Need-overflow-add-total-on invariant-loop decreases-loop
-add-total-on c = omega arith
+overflow_add-k : tie.Need-overflow_add-k invariant-loop-k decreases-loop-k
+overflow_add-k c = omega arith
 
-total-on-requires : tie.Need-total-on-requires invariant-loop decreases-loop
-total-on-requires c κs = c.before.before.before.before.requires.0
+total_on-requires : tie.Need-total_on-requires invariant-loop-k decreases-loop-k
+total_on-requires c κs = c.before.before.before.before.requires.0
 
 -- the entry, as a turn sees it
-abbrev entry : tie.In-loop invariant-loop decreases-loop → tie.Start invariant-loop decreases-loop
+abbrev entry : tie.In-loop-k invariant-loop-k decreases-loop-k → tie.Start invariant-loop-k decreases-loop-k
 entry c = c.before.before.before
 
-add-used : tie.Need-overflow-add-used invariant-loop decreases-loop
-add-used c =
+overflow_add-used : tie.Need-overflow_add-used invariant-loop-k decreases-loop-k
+overflow_add-used c =
     let s = entry c.before.before in
-    let l = c.before.before.before.loop in
+    let l = c.before.before.before.loop-k in
     omega (arith, l.invariant.1.left l.k (omega arith), s.pre.1.low l.k (omega arith), c.total_on.ensures, total_few s.args.file.now s.pre.0 (l.k + 1))
 
-mul-used-2 : tie.Need-overflow-mul-used-2 invariant-loop decreases-loop
-mul-used-2 c = omega arith
+offset_bounds-used-k-in-loop-k : tie.Need-offset_bounds-used-k-in-loop-k invariant-loop-k decreases-loop-k
+offset_bounds-used-k-in-loop-k c = omega arith
 
-element-write-used : tie.Need-element-write-used invariant-loop decreases-loop
-element-write-used c = omega arith
+bounds-used-k-in-loop-k : tie.Need-bounds-used-k-in-loop-k invariant-loop-k decreases-loop-k
+bounds-used-k-in-loop-k c = omega arith
 
-add-k : tie.Need-overflow-add-k invariant-loop decreases-loop
-add-k c = omega arith
+overflow_add-k-in-loop-k : tie.Need-overflow_add-k-in-loop-k invariant-loop-k decreases-loop-k
+overflow_add-k-in-loop-k c = omega arith
 
-loop-less : tie.Need-loop-smaller invariant-loop decreases-loop
-loop-less c = omega arith
+loop-k-smaller : tie.Need-loop-k-smaller invariant-loop-k decreases-loop-k
+loop-k-smaller c = omega arith
 
-loop-again : tie.Need-loop-preserved invariant-loop decreases-loop
-loop-again c =
+loop-k-preserved : tie.Need-loop-k-preserved invariant-loop-k decreases-loop-k
+loop-k-preserved c =
     let s = entry c.before.before in
-    let l = c.before.before.before.loop in
+    let l = c.before.before.before.loop-k in
     let g : ℕ → ℕ = total_on (loop_of s.args.file.now) in (
       omega arith,
-      raised_next g l.k s.args.used.now l.used _ (omega (arith, s.pre.1.long)) l.invariant.1 (omega (arith, c.total_on.ensures, ap g (add-one l.k))),
+      raised_next g l.k s.args.used-1.now l.used-1 _ (omega (arith, s.pre.1.long)) l.invariant.1 (omega (arith, c.total_on.ensures, ap g (add-one l.k))),
     )
 
-returns : tie.Need-returns invariant-loop decreases-loop
+returns : tie.Need-returns invariant-loop-k decreases-loop-k
 returns c =
-    let l = c.before.loop in
+    let l = c.before.loop-k in
     let e : l.k ≡ 24 = omega arith in
     raised_all _ _ _ (rw e at l.invariant.1)
 
@@ -71,17 +71,17 @@ pub add_used_spec : {M : Type 1} → statement M
 add_used_spec =
     tie.close
     (tie.spec
-    invariant-loop
-    decreases-loop
-    loop-holds
-    mul-used
-    element-copy-out-used
-    add-total-on
-    total-on-requires
-    add-used
-    mul-used-2
-    element-write-used
-    add-k
-    loop-less
-    loop-again
+    invariant-loop-k
+    decreases-loop-k
+    loop-k-init
+    offset_bounds-used-k
+    bounds-used-k
+    overflow_add-k
+    total_on-requires
+    overflow_add-used
+    offset_bounds-used-k-in-loop-k
+    bounds-used-k-in-loop-k
+    overflow_add-k-in-loop-k
+    loop-k-smaller
+    loop-k-preserved
     returns)

@@ -8,11 +8,11 @@ use Rattle.sheet.proofs.sums.at_bound.Tie as tie
 larger-requires : tie.Need-larger-requires
 larger-requires c κs = search rules
 
-returns : tie.Need-returns
-returns c = rw (eq-eqb _ _ (c.if1.true ∙ c.before.before.larger.ensures))
+returns-then-s-larger : tie.Need-returns-then-s-larger
+returns-then-s-larger c = rw (eq-eqb _ _ (c.if-s-larger.true ∙ c.before.before.larger.ensures))
 
-returns-2 : tie.Need-returns-2
-returns-2 c = rw (ne_eqb _ _ (λ e. c.if1.false (e ∙ sym c.before.before.larger.ensures)))
+returns : tie.Need-returns
+returns c = rw (ne_eqb _ _ (λ e. c.if-s-larger.false (e ∙ sym c.before.before.larger.ensures)))
 
 pub at_bound_spec : {M : Type 1} → statement M
-at_bound_spec = tie.close (tie.spec larger-requires returns returns-2)
+at_bound_spec = tie.close (tie.spec larger-requires returns-then-s-larger returns)

@@ -4,15 +4,15 @@ use Rattle.trial.specs.Drawn.{blank_of}
 use Rattle.trial.proofs.draw.blank.Statement.{statement}
 use Rattle.trial.proofs.draw.blank.Tie as tie
 
-cast-t7 : tie.Need-overflow-cast-t7
-cast-t7 c = omega arith
+overflow_cast-result : tie.Need-overflow_cast-result
+overflow_cast-result c = omega arith
 
-cast-t9 : tie.Need-overflow-cast-t9
-cast-t9 c = omega arith
+overflow_cast-result-2 : tie.Need-overflow_cast-result-2
+overflow_cast-result-2 c = omega arith
 
 returns : tie.Need-returns
 unfolding blank_of
 returns c = refl
 
 pub blank_spec : {M : Type 1} → statement M
-blank_spec = tie.close (tie.spec cast-t7 cast-t9 returns)
+blank_spec = tie.close (tie.spec overflow_cast-result overflow_cast-result-2 returns)

@@ -4,31 +4,31 @@ use Rattle.trial.specs.Drawn.{SameSizes}
 use Rattle.trial.proofs.draw.draw_deps.Statement.{statement}
 use Rattle.trial.proofs.draw.draw_deps.Tie as tie
 
-abbrev invariant-loop : tie.invariant-loop
-invariant-loop count out₀ e₀ out e = SameSizes out₀ out
+abbrev invariant-loop-e : tie.invariant-loop-e
+invariant-loop-e count out₀ e₀ out e = SameSizes out₀ out
 
-abbrev decreases-loop : tie.decreases-loop
-decreases-loop count out₀ e₀ out e = count - e
+abbrev decreases-loop-e : tie.decreases-loop-e
+decreases-loop-e count out₀ e₀ out e = count - e
 
-loop-holds : tie.Need-loop-init invariant-loop decreases-loop
-loop-holds c = search rules
+loop-e-init : tie.Need-loop-e-init invariant-loop-e decreases-loop-e
+loop-e-init c = search rules
 
-draw-dep-requires : tie.Need-draw-dep-requires invariant-loop decreases-loop
-draw-dep-requires c κs = tt
+draw_dep-out-requires : tie.Need-draw_dep-out-requires invariant-loop-e decreases-loop-e
+draw_dep-out-requires c κs = tt
 
-add-e : tie.Need-overflow-add-e invariant-loop decreases-loop
-add-e c = omega arith
+overflow_add-e : tie.Need-overflow_add-e invariant-loop-e decreases-loop-e
+overflow_add-e c = omega arith
 
-loop-less : tie.Need-loop-smaller invariant-loop decreases-loop
-loop-less c = omega arith
+loop-e-smaller : tie.Need-loop-e-smaller invariant-loop-e decreases-loop-e
+loop-e-smaller c = omega arith
 
-loop-again : tie.Need-loop-preserved invariant-loop decreases-loop
-loop-again c = search rules
+loop-e-preserved : tie.Need-loop-e-preserved invariant-loop-e decreases-loop-e
+loop-e-preserved c = search rules
 
-returns : tie.Need-returns invariant-loop decreases-loop
+returns : tie.Need-returns invariant-loop-e decreases-loop-e
 returns c = search rules
 
 pub draw_deps_spec : {M : Type 1} → statement M
 draw_deps_spec =
     tie.close
-    (tie.spec invariant-loop decreases-loop loop-holds draw-dep-requires add-e loop-less loop-again returns)
+    (tie.spec invariant-loop-e decreases-loop-e loop-e-init draw_dep-out-requires overflow_add-e loop-e-smaller loop-e-preserved returns)

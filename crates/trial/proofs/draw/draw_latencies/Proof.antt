@@ -4,55 +4,55 @@ use Rattle.trial.specs.Drawn.{SameSizes}
 use Rattle.trial.proofs.draw.draw_latencies.Statement.{statement}
 use Rattle.trial.proofs.draw.draw_latencies.Tie as tie
 
-abbrev invariant-loop : tie.invariant-loop
-invariant-loop count end out₀ op₀ out op = SameSizes out₀ out
+abbrev invariant-loop-op : tie.invariant-loop-op
+invariant-loop-op count end out₀ op₀ out op = SameSizes out₀ out
 
-abbrev decreases-loop : tie.decreases-loop
-decreases-loop count end out₀ op₀ out op = end - op
+abbrev decreases-loop-op : tie.decreases-loop-op
+decreases-loop-op count end out₀ op₀ out op = end - op
 
-least-requires : tie.Need-least-requires invariant-loop decreases-loop
-least-requires c κs = tt
+least-end-requires : tie.Need-least-end-requires invariant-loop-op decreases-loop-op
+least-end-requires c κs = tt
 
-loop-holds : tie.Need-loop-init invariant-loop decreases-loop
-loop-holds c = search rules
+loop-op-init : tie.Need-loop-op-init invariant-loop-op decreases-loop-op
+loop-op-init c = search rules
 
-next-requires : tie.Need-next-requires invariant-loop decreases-loop
-next-requires c κs = tt
+next-s-requires : tie.Need-next-s-requires invariant-loop-op decreases-loop-op
+next-s-requires c κs = tt
 
-pick-requires : tie.Need-pick-requires invariant-loop decreases-loop
+pick-requires : tie.Need-pick-requires invariant-loop-op decreases-loop-op
 pick-requires c κs = tt
 
-byte-requires : tie.Need-byte-requires invariant-loop decreases-loop
+byte-requires : tie.Need-byte-requires invariant-loop-op decreases-loop-op
 byte-requires c κs = tt
 
-element-write-out : tie.Need-element-write-out invariant-loop decreases-loop
-element-write-out c = omega arith
+bounds-out-op : tie.Need-bounds-out-op invariant-loop-op decreases-loop-op
+bounds-out-op c = omega arith
 
-add-op : tie.Need-overflow-add-op invariant-loop decreases-loop
-add-op c = omega arith
+overflow_add-op : tie.Need-overflow_add-op invariant-loop-op decreases-loop-op
+overflow_add-op c = omega arith
 
-loop-less : tie.Need-loop-smaller invariant-loop decreases-loop
-loop-less c = omega arith
+loop-op-smaller : tie.Need-loop-op-smaller invariant-loop-op decreases-loop-op
+loop-op-smaller c = omega arith
 
-loop-again : tie.Need-loop-preserved invariant-loop decreases-loop
-loop-again c = search rules
+loop-op-preserved : tie.Need-loop-op-preserved invariant-loop-op decreases-loop-op
+loop-op-preserved c = search rules
 
-returns : tie.Need-returns invariant-loop decreases-loop
+returns : tie.Need-returns invariant-loop-op decreases-loop-op
 returns c = search rules
 
 pub draw_latencies_spec : {M : Type 1} → statement M
 draw_latencies_spec =
     tie.close
     (tie.spec
-    invariant-loop
-    decreases-loop
-    least-requires
-    loop-holds
-    next-requires
+    invariant-loop-op
+    decreases-loop-op
+    least-end-requires
+    loop-op-init
+    next-s-requires
     pick-requires
     byte-requires
-    element-write-out
-    add-op
-    loop-less
-    loop-again
+    bounds-out-op
+    overflow_add-op
+    loop-op-smaller
+    loop-op-preserved
     returns)

@@ -4,55 +4,55 @@ use Rattle.trial.specs.Drawn.{SameSizes}
 use Rattle.trial.proofs.draw.draw_uses.Statement.{statement}
 use Rattle.trial.proofs.draw.draw_uses.Tie as tie
 
-abbrev invariant-loop : tie.invariant-loop
-invariant-loop d count end out₀ i₀ out i = SameSizes d out
+abbrev invariant-loop-i : tie.invariant-loop-i
+invariant-loop-i d count end out₀ i₀ out i = SameSizes d out
 
-abbrev decreases-loop : tie.decreases-loop
-decreases-loop d count end out₀ i₀ out i = end - i
+abbrev decreases-loop-i : tie.decreases-loop-i
+decreases-loop-i d count end out₀ i₀ out i = end - i
 
-least-requires : tie.Need-least-requires invariant-loop decreases-loop
-least-requires c κs = tt
+least-end-requires : tie.Need-least-end-requires invariant-loop-i decreases-loop-i
+least-end-requires c κs = tt
 
-mul-end : tie.Need-overflow-mul-end invariant-loop decreases-loop
-mul-end c = omega arith
+overflow_mul-end : tie.Need-overflow_mul-end invariant-loop-i decreases-loop-i
+overflow_mul-end c = omega arith
 
-loop-holds : tie.Need-loop-init invariant-loop decreases-loop
-loop-holds c = search rules
+loop-i-init : tie.Need-loop-i-init invariant-loop-i decreases-loop-i
+loop-i-init c = search rules
 
-next-requires : tie.Need-next-requires invariant-loop decreases-loop
-next-requires c κs = tt
+next-s-requires : tie.Need-next-s-requires invariant-loop-i decreases-loop-i
+next-s-requires c κs = tt
 
-cycles-requires : tie.Need-cycles-requires invariant-loop decreases-loop
+cycles-requires : tie.Need-cycles-requires invariant-loop-i decreases-loop-i
 cycles-requires c κs = tt
 
-element-write-out : tie.Need-element-write-out invariant-loop decreases-loop
-element-write-out c = omega arith
+bounds-out-i : tie.Need-bounds-out-i invariant-loop-i decreases-loop-i
+bounds-out-i c = omega arith
 
-add-i : tie.Need-overflow-add-i invariant-loop decreases-loop
-add-i c = omega arith
+overflow_add-i : tie.Need-overflow_add-i invariant-loop-i decreases-loop-i
+overflow_add-i c = omega arith
 
-loop-less : tie.Need-loop-smaller invariant-loop decreases-loop
-loop-less c = omega arith
+loop-i-smaller : tie.Need-loop-i-smaller invariant-loop-i decreases-loop-i
+loop-i-smaller c = omega arith
 
-loop-again : tie.Need-loop-preserved invariant-loop decreases-loop
-loop-again c = search rules
+loop-i-preserved : tie.Need-loop-i-preserved invariant-loop-i decreases-loop-i
+loop-i-preserved c = search rules
 
-returns : tie.Need-returns invariant-loop decreases-loop
+returns : tie.Need-returns invariant-loop-i decreases-loop-i
 returns c = search rules
 
 pub draw_uses_spec : {M : Type 1} → statement M
 draw_uses_spec =
     tie.close
     (tie.spec
-    invariant-loop
-    decreases-loop
-    least-requires
-    mul-end
-    loop-holds
-    next-requires
+    invariant-loop-i
+    decreases-loop-i
+    least-end-requires
+    overflow_mul-end
+    loop-i-init
+    next-s-requires
     cycles-requires
-    element-write-out
-    add-i
-    loop-less
-    loop-again
+    bounds-out-i
+    overflow_add-i
+    loop-i-smaller
+    loop-i-preserved
     returns)

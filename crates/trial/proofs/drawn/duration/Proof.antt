@@ -4,31 +4,31 @@ use Rattle.trial.specs.Drawn.{duration_of}
 use Rattle.trial.proofs.drawn.duration.Statement.{statement}
 use Rattle.trial.proofs.drawn.duration.Tie as tie
 
-mul_wide : tie.Need-overflow-mul-wide
-mul_wide c = omega arith
+overflow_mul-op : tie.Need-overflow_mul-op
+overflow_mul-op c = omega arith
 
-add_wide : tie.Need-overflow-add-wide
-add_wide c = omega arith
+overflow_add-op : tie.Need-overflow_add-op
+overflow_add-op c = omega arith
 
-element-copy-out-wide : tie.Need-element-copy-out-wide
-element-copy-out-wide c = omega arith
+bounds-d-op : tie.Need-bounds-d-op
+bounds-d-op c = omega arith
 
 wide-requires : tie.Need-wide-requires
 wide-requires c κs = tt
 
-returns : tie.Need-returns
+returns-then-slot-lt3 : tie.Need-returns-then-slot-lt3
 unfolding duration_of
-returns c = rw (lt-ltb _ _ c.before.before.before.if1.true, lt-ltb _ _ c.before.before.if2.true) c.wide.ensures.0
+returns-then-slot-lt3 c = rw (lt-ltb _ _ c.before.before.before.if-op-lt6.true, lt-ltb _ _ c.before.before.if-slot-lt3.true) c.wide.ensures.0
 
-returns-2 : tie.Need-returns-2
+returns-else-slot-lt3 : tie.Need-returns-else-slot-lt3
 unfolding duration_of
-returns-2 c = rw (lt-ltb _ _ c.before.if1.true, le-ltb _ _ c.if2.false)
+returns-else-slot-lt3 c = rw (lt-ltb _ _ c.before.if-op-lt6.true, le-ltb _ _ c.if-slot-lt3.false)
 
-returns-3 : tie.Need-returns-3
+returns-else-op-lt6 : tie.Need-returns-else-op-lt6
 unfolding duration_of
-returns-3 c = rw (le-ltb _ _ c.if1.false)
+returns-else-op-lt6 c = rw (le-ltb _ _ c.if-op-lt6.false)
 
 pub duration_spec : {M : Type 1} → statement M
 duration_spec =
     tie.close
-    (tie.spec mul_wide add_wide element-copy-out-wide wide-requires returns returns-2 returns-3)
+    (tie.spec overflow_mul-op overflow_add-op bounds-d-op wide-requires returns-then-slot-lt3 returns-else-slot-lt3 returns-else-op-lt6)

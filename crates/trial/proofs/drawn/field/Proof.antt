@@ -4,31 +4,31 @@ use Rattle.trial.specs.Drawn.{field_of}
 use Rattle.trial.proofs.drawn.field.Statement.{statement}
 use Rattle.trial.proofs.drawn.field.Tie as tie
 
-mul_wide : tie.Need-overflow-mul-wide
-mul_wide c = omega arith
+overflow_mul-e : tie.Need-overflow_mul-e
+overflow_mul-e c = omega arith
 
-add_wide : tie.Need-overflow-add-wide
-add_wide c = omega arith
+overflow_add-e : tie.Need-overflow_add-e
+overflow_add-e c = omega arith
 
-element-copy-out-wide : tie.Need-element-copy-out-wide
-element-copy-out-wide c = omega arith
+bounds-d-e : tie.Need-bounds-d-e
+bounds-d-e c = omega arith
 
 wide-requires : tie.Need-wide-requires
 wide-requires c κs = tt
 
-returns : tie.Need-returns
+returns-then-which-lt4 : tie.Need-returns-then-which-lt4
 unfolding field_of
-returns c = (rw (lt-ltb _ _ c.before.before.before.if1.true, lt-ltb _ _ c.before.before.if2.true) c.wide.ensures.0, omega arith)
+returns-then-which-lt4 c = (rw (lt-ltb _ _ c.before.before.before.if-e-lt6.true, lt-ltb _ _ c.before.before.if-which-lt4.true) c.wide.ensures.0, omega arith)
 
-returns-2 : tie.Need-returns-2
+returns-else-which-lt4 : tie.Need-returns-else-which-lt4
 unfolding field_of
-returns-2 c = (rw (lt-ltb _ _ c.before.if1.true, le-ltb _ _ c.if2.false), omega arith)
+returns-else-which-lt4 c = (rw (lt-ltb _ _ c.before.if-e-lt6.true, le-ltb _ _ c.if-which-lt4.false), omega arith)
 
-returns-3 : tie.Need-returns-3
+returns-else-e-lt6 : tie.Need-returns-else-e-lt6
 unfolding field_of
-returns-3 c = (rw (le-ltb _ _ c.if1.false), omega arith)
+returns-else-e-lt6 c = (rw (le-ltb _ _ c.if-e-lt6.false), omega arith)
 
 pub field_spec : {M : Type 1} → statement M
 field_spec =
     tie.close
-    (tie.spec mul_wide add_wide element-copy-out-wide wide-requires returns returns-2 returns-3)
+    (tie.spec overflow_mul-e overflow_add-e bounds-d-e wide-requires returns-then-which-lt4 returns-else-which-lt4 returns-else-e-lt6)

@@ -7,33 +7,33 @@ use Rattle.trial.proofs.drawn.holds.Tie as tie
 field-requires : tie.Need-field-requires
 field-requires c κs = tt
 
-start-of-requires : tie.Need-start-of-requires
-start-of-requires c κs = tt
+start_of-s-requires : tie.Need-start_of-s-requires
+start_of-s-requires c κs = tt
 
 field-requires-2 : tie.Need-field-requires-2
 field-requires-2 c κs = tt
 
-start-of-requires-2 : tie.Need-start-of-requires-2
-start-of-requires-2 c κs = tt
+start_of-t-requires : tie.Need-start_of-t-requires
+start_of-t-requires c κs = tt
 
-returns : tie.Need-returns
+returns-then-s-t : tie.Need-returns-then-s-t
 unfolding holds_at holds_in
-returns c =
+returns-then-s-t c =
     let u = c.before in
     let v = u.before.before in
-    rw (← v.before.field.ensures.0, ← v.start_of_lem.ensures, ← u.before.field2.ensures.0, ← u.start-of2.ensures, c.if1.true)
+    rw (← v.before.field.ensures.0, ← v.start_of_lem.ensures, ← u.before.field-2.ensures.0, ← u.start_of-t.ensures, c.if-s-t.true)
 
-cast-due : tie.Need-overflow-cast-due
-cast-due c = omega arith
+overflow_cast-due : tie.Need-overflow_cast-due
+overflow_cast-due c = omega arith
 
 field-requires-3 : tie.Need-field-requires-3
 field-requires-3 c κs = tt
 
-add-due : tie.Need-overflow-add-due
-add-due c = omega arith
+overflow_add-due : tie.Need-overflow_add-due
+overflow_add-due c = omega arith
 
-cast-given : tie.Need-overflow-cast-given
-cast-given c = omega arith
+overflow_cast-given : tie.Need-overflow_cast-given
+overflow_cast-given c = omega arith
 
 field-requires-4 : tie.Need-field-requires-4
 field-requires-4 c κs = tt
@@ -41,26 +41,26 @@ field-requires-4 c κs = tt
 lag-requires : tie.Need-lag-requires
 lag-requires c κs = tt
 
-add-given : tie.Need-overflow-add-given
-add-given c = omega arith
+overflow_add-given : tie.Need-overflow_add-given
+overflow_add-given c = omega arith
 
-add-result : tie.Need-overflow-add-result
-add-result c = omega arith
+overflow_add-result : tie.Need-overflow_add-result
+overflow_add-result c = omega arith
 
-returns-2 : tie.Need-returns-2
+returns : tie.Need-returns
 unfolding holds_at holds_in
-returns-2 c =
+returns c =
     let w = c.before.before in
     let u = w.before.before in
     let v = u.before.before in
     rw (
       ← v.before.field.ensures.0,
       ← v.start_of_lem.ensures,
-      ← u.before.field2.ensures.0,
-      ← u.start-of2.ensures,
-      w.before.if1.false,
-      ← w.field3.ensures.0,
-      ← c.before.field4.ensures.0,
+      ← u.before.field-2.ensures.0,
+      ← u.start_of-t.ensures,
+      w.before.if-s-t.false,
+      ← w.field-3.ensures.0,
+      ← c.before.field-4.ensures.0,
       ← c.lag.ensures.0,
     )
 
@@ -69,16 +69,16 @@ holds_spec =
     tie.close
     (tie.spec
     field-requires
-    start-of-requires
+    start_of-s-requires
     field-requires-2
-    start-of-requires-2
-    returns
-    cast-due
+    start_of-t-requires
+    returns-then-s-t
+    overflow_cast-due
     field-requires-3
-    add-due
-    cast-given
+    overflow_add-due
+    overflow_cast-given
     field-requires-4
     lag-requires
-    add-given
-    add-result
-    returns-2)
+    overflow_add-given
+    overflow_add-result
+    returns)

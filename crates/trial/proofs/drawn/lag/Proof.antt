@@ -4,20 +4,20 @@ use Rattle.trial.specs.Drawn.{lag_of}
 use Rattle.trial.proofs.drawn.lag.Statement.{statement}
 use Rattle.trial.proofs.drawn.lag.Tie as tie
 
+returns-then-distance-eq0 : tie.Need-returns-then-distance-eq0
+unfolding lag_of
+returns-then-distance-eq0 c = (rw (eq-eqb _ _ c.if-distance-eq0.true), omega arith)
+
+returns-then-distance-eq1 : tie.Need-returns-then-distance-eq1
+unfolding lag_of
+returns-then-distance-eq1 c = (rw (ne_eqb _ _ c.before.if-distance-eq0.false, eq-eqb _ _ c.if-distance-eq1.true), omega arith)
+
+overflow_add-result : tie.Need-overflow_add-result
+overflow_add-result c = omega arith
+
 returns : tie.Need-returns
 unfolding lag_of
-returns c = (rw (eq-eqb _ _ c.if1.true), omega arith)
-
-returns-2 : tie.Need-returns-2
-unfolding lag_of
-returns-2 c = (rw (ne_eqb _ _ c.before.if1.false, eq-eqb _ _ c.if2.true), omega arith)
-
-add-result : tie.Need-overflow-add-result
-add-result c = omega arith
-
-returns-3 : tie.Need-returns-3
-unfolding lag_of
-returns-3 c = (rw (ne_eqb _ _ c.before.if1.false, ne_eqb _ _ c.if2.false), omega arith)
+returns c = (rw (ne_eqb _ _ c.before.if-distance-eq0.false, ne_eqb _ _ c.if-distance-eq1.false), omega arith)
 
 pub lag_spec : {M : Type 1} → statement M
-lag_spec = tie.close (tie.spec returns returns-2 add-result returns-3)
+lag_spec = tie.close (tie.spec returns-then-distance-eq0 returns-then-distance-eq1 overflow_add-result returns)

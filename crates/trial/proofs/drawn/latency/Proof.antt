@@ -4,19 +4,19 @@ use Rattle.trial.specs.Drawn.{latency_of}
 use Rattle.trial.proofs.drawn.latency.Statement.{statement}
 use Rattle.trial.proofs.drawn.latency.Tie as tie
 
-element-copy-out-wide : tie.Need-element-copy-out-wide
-element-copy-out-wide c = omega arith
+bounds-d-op : tie.Need-bounds-d-op
+bounds-d-op c = omega arith
 
 wide-requires : tie.Need-wide-requires
 wide-requires c κs = tt
 
-returns : tie.Need-returns
+returns-then-op-lt6 : tie.Need-returns-then-op-lt6
 unfolding latency_of
-returns c = rw (lt-ltb _ _ c.before.before.if1.true) c.wide.ensures.0
+returns-then-op-lt6 c = rw (lt-ltb _ _ c.before.before.if-op-lt6.true) c.wide.ensures.0
 
-returns-2 : tie.Need-returns-2
+returns-else-op-lt6 : tie.Need-returns-else-op-lt6
 unfolding latency_of
-returns-2 c = rw (le-ltb _ _ c.if1.false)
+returns-else-op-lt6 c = rw (le-ltb _ _ c.if-op-lt6.false)
 
 pub latency_spec : {M : Type 1} → statement M
-latency_spec = tie.close (tie.spec element-copy-out-wide wide-requires returns returns-2)
+latency_spec = tie.close (tie.spec bounds-d-op wide-requires returns-then-op-lt6 returns-else-op-lt6)

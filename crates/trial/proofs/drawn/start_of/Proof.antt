@@ -4,19 +4,19 @@ use Rattle.trial.specs.Drawn.{start_of}
 use Rattle.trial.proofs.drawn.start_of.Statement.{statement}
 use Rattle.trial.proofs.drawn.start_of.Tie as tie
 
-mul-result : tie.Need-overflow-mul-result
-mul-result c = omega arith
+offset_bounds-starts-op : tie.Need-offset_bounds-starts-op
+offset_bounds-starts-op c = omega arith
 
-element-copy-out-result : tie.Need-element-copy-out-result
-element-copy-out-result c = omega arith
+bounds-starts-op : tie.Need-bounds-starts-op
+bounds-starts-op c = omega arith
 
-returns : tie.Need-returns
+returns-then-op-lt6 : tie.Need-returns-then-op-lt6
 unfolding start_of
-returns c = rw (lt-ltb _ _ c.before.if1.true)
+returns-then-op-lt6 c = rw (lt-ltb _ _ c.before.if-op-lt6.true)
 
-returns-2 : tie.Need-returns-2
+returns-else-op-lt6 : tie.Need-returns-else-op-lt6
 unfolding start_of
-returns-2 c = rw (le-ltb _ _ c.if1.false)
+returns-else-op-lt6 c = rw (le-ltb _ _ c.if-op-lt6.false)
 
 pub start_of_spec : {M : Type 1} → statement M
-start_of_spec = tie.close (tie.spec mul-result element-copy-out-result returns returns-2)
+start_of_spec = tie.close (tie.spec offset_bounds-starts-op bounds-starts-op returns-then-op-lt6 returns-else-op-lt6)

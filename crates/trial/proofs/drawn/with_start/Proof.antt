@@ -4,19 +4,19 @@ use Rattle.trial.specs.Drawn.{set_at}
 use Rattle.trial.proofs.drawn.with_start.Statement.{statement}
 use Rattle.trial.proofs.drawn.with_start.Tie as tie
 
-mul-out : tie.Need-overflow-mul-out
-mul-out c = omega arith
+offset_bounds-out-op : tie.Need-offset_bounds-out-op
+offset_bounds-out-op c = omega arith
 
-array-write-out : tie.Need-array-write-out
-array-write-out c = omega arith
+bounds-out-op : tie.Need-bounds-out-op
+bounds-out-op c = omega arith
 
-returns : tie.Need-returns
+returns-then-op-lt6 : tie.Need-returns-then-op-lt6
 unfolding set_at
-returns c = rw (lt-ltb _ _ c.if1.true)
+returns-then-op-lt6 c = rw (lt-ltb _ _ c.if-op-lt6.true)
 
-returns-2 : tie.Need-returns-2
+returns-else-op-lt6 : tie.Need-returns-else-op-lt6
 unfolding set_at
-returns-2 c = rw (le-ltb _ _ c.if1.false)
+returns-else-op-lt6 c = rw (le-ltb _ _ c.if-op-lt6.false)
 
 pub with_start_spec : {M : Type 1} → statement M
-with_start_spec = tie.close (tie.spec mul-out array-write-out returns returns-2)
+with_start_spec = tie.close (tie.spec offset_bounds-out-op bounds-out-op returns-then-op-lt6 returns-else-op-lt6)

@@ -4,20 +4,20 @@ use native.Mathlib.Nat.{sub-zero}
 use Rattle.trial.proofs.file.part.Statement.{statement}
 use Rattle.trial.proofs.file.part.Tie as tie
 
-sub-result : tie.Need-overflow-sub-result
-sub-result c = omega arith
+slice_bounds-result-count : tie.Need-slice_bounds-result-count
+slice_bounds-result-count c = omega arith
 
-part-result-start : tie.Need-slice-bounds-result-start
-part-result-start c = omega arith
+slice_bounds-result-start : tie.Need-slice_bounds-result-start
+slice_bounds-result-start c = omega arith
 
-part-result-end : tie.Need-slice-bounds-result-end
-part-result-end c = omega arith
+slice_bounds-result-end : tie.Need-slice_bounds-result-end
+slice_bounds-result-end c = omega arith
 
-returns : tie.Need-returns
-returns c = rw sub-zero
+returns-then-len-bytes : tie.Need-returns-then-len-bytes
+returns-then-len-bytes c = rw sub-zero
 
-returns-2 : tie.Need-returns-2
-returns-2 c = sym (take_all _ _ c.if1.false)
+returns-else-len-bytes : tie.Need-returns-else-len-bytes
+returns-else-len-bytes c = sym (take_all _ _ c.if-len-bytes.false)
 
 pub part_spec : {M : Type 1} → statement M
-part_spec = tie.close (tie.spec sub-result part-result-start part-result-end returns returns-2)
+part_spec = tie.close (tie.spec slice_bounds-result-count slice_bounds-result-start slice_bounds-result-end returns-then-len-bytes returns-else-len-bytes)

@@ -6,16 +6,16 @@ use Rattle.trial.proofs.file.put.Tie as tie
 byte-requires : tie.Need-byte-requires
 byte-requires c κs = tt
 
-element-write-file : tie.Need-element-write-file
-element-write-file c = omega arith
+bounds-file-at : tie.Need-bounds-file-at
+bounds-file-at c = omega arith
 
-returns : tie.Need-returns
-returns c =
+returns-then-at-lt2000 : tie.Need-returns-then-at-lt2000
+returns-then-at-lt2000 c =
     let a = c.before.before.args in
-    simp (lt-ltb a.at 2000 c.before.if1.true) (ap (λ (v : ℕ). set a.file.now a.at v) c.byte.ensures)
+    simp (lt-ltb a.at 2000 c.before.if-at-lt2000.true) (ap (λ (v : ℕ). set a.file.now a.at v) c.byte.ensures)
 
-returns-2 : tie.Need-returns-2
-returns-2 c = simp (le-ltb c.before.args.at 2000 c.if1.false)
+returns-else-at-lt2000 : tie.Need-returns-else-at-lt2000
+returns-else-at-lt2000 c = simp (le-ltb c.before.args.at 2000 c.if-at-lt2000.false)
 
 pub put_spec : {M : Type 1} → statement M
-put_spec = tie.close (tie.spec byte-requires element-write-file returns returns-2)
+put_spec = tie.close (tie.spec byte-requires bounds-file-at returns-then-at-lt2000 returns-else-at-lt2000)

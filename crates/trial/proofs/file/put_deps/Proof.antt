@@ -3,55 +3,55 @@ use Rattle.std.proofs.Common.{◌-◌, arith}
 use Rattle.trial.proofs.file.put_deps.Statement.{statement}
 use Rattle.trial.proofs.file.put_deps.Tie as tie
 
-abbrev invariant-loop : tie.invariant-loop
-invariant-loop file₀ d m from i₀ file i = Unit
+abbrev invariant-loop-i : tie.invariant-loop-i
+invariant-loop-i file₀ d m from i₀ file i = Unit
 
-abbrev decreases-loop : tie.decreases-loop
-decreases-loop file₀ d m from i₀ file i = 24 - i
+abbrev decreases-loop-i : tie.decreases-loop-i
+decreases-loop-i file₀ d m from i₀ file i = 24 - i
 
-loop-holds : tie.Need-loop-init invariant-loop decreases-loop
-loop-holds c = tt
+loop-i-init : tie.Need-loop-i-init invariant-loop-i decreases-loop-i
+loop-i-init c = tt
 
-mul-loop : tie.Need-overflow-mul-loop invariant-loop decreases-loop
-mul-loop c = omega arith
+overflow_mul-m : tie.Need-overflow_mul-m invariant-loop-i decreases-loop-i
+overflow_mul-m c = omega arith
 
-field-requires : tie.Need-field-requires invariant-loop decreases-loop
-field-requires c κs = tt
+field-x-requires : tie.Need-field-x-requires invariant-loop-i decreases-loop-i
+field-x-requires c κs = tt
 
-add-signed : tie.Need-overflow-add-signed invariant-loop decreases-loop
-add-signed c = omega arith
+overflow_add-signed : tie.Need-overflow_add-signed invariant-loop-i decreases-loop-i
+overflow_add-signed c = omega arith
 
-add-put : tie.Need-overflow-add-put invariant-loop decreases-loop
-add-put c = omega arith
+overflow_add-from : tie.Need-overflow_add-from invariant-loop-i decreases-loop-i
+overflow_add-from c = omega arith
 
-put-requires : tie.Need-put-requires invariant-loop decreases-loop
+put-requires : tie.Need-put-requires invariant-loop-i decreases-loop-i
 put-requires c κs = tt
 
-add-i : tie.Need-overflow-add-i invariant-loop decreases-loop
-add-i c = omega arith
+overflow_add-i : tie.Need-overflow_add-i invariant-loop-i decreases-loop-i
+overflow_add-i c = omega arith
 
-loop-less : tie.Need-loop-smaller invariant-loop decreases-loop
-loop-less c = omega arith
+loop-i-smaller : tie.Need-loop-i-smaller invariant-loop-i decreases-loop-i
+loop-i-smaller c = omega arith
 
-loop-again : tie.Need-loop-preserved invariant-loop decreases-loop
-loop-again c = tt
+loop-i-preserved : tie.Need-loop-i-preserved invariant-loop-i decreases-loop-i
+loop-i-preserved c = tt
 
-returns : tie.Need-returns invariant-loop decreases-loop
+returns : tie.Need-returns invariant-loop-i decreases-loop-i
 returns c = tt
 
 pub put_deps_spec : {M : Type 1} → statement M
 put_deps_spec =
     tie.close
     (tie.spec
-    invariant-loop
-    decreases-loop
-    loop-holds
-    mul-loop
-    field-requires
-    add-signed
-    add-put
+    invariant-loop-i
+    decreases-loop-i
+    loop-i-init
+    overflow_mul-m
+    field-x-requires
+    overflow_add-signed
+    overflow_add-from
     put-requires
-    add-i
-    loop-less
-    loop-again
+    overflow_add-i
+    loop-i-smaller
+    loop-i-preserved
     returns)

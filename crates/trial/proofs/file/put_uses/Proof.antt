@@ -3,63 +3,63 @@ use Rattle.std.proofs.Common.{◌+◌, ◌-◌, ◌*◌, ◌≤◌, ⊎_elim, ar
 use Rattle.trial.proofs.file.put_uses.Statement.{statement}
 use Rattle.trial.proofs.file.put_uses.Tie as tie
 
-abbrev invariant-loop : tie.invariant-loop
-invariant-loop file₀ d n from at₀ i₀ file at i = (from ≤ at) × (at ≤ from + 2 * i) × (i ≤ 18)
+abbrev invariant-loop-i : tie.invariant-loop-i
+invariant-loop-i file₀ d n from at₀ i₀ file at i = (from ≤ at) × (at ≤ from + 2 * i) × (i ≤ 18)
 
-abbrev decreases-loop : tie.decreases-loop
-decreases-loop file₀ d n from at₀ i₀ file at i = 18 - i
+abbrev decreases-loop-i : tie.decreases-loop-i
+decreases-loop-i file₀ d n from at₀ i₀ file at i = 18 - i
 
-loop-holds : tie.Need-loop-init invariant-loop decreases-loop
-loop-holds c = omega arith
+loop-i-init : tie.Need-loop-i-init invariant-loop-i decreases-loop-i
+loop-i-init c = omega arith
 
-mul-loop : tie.Need-overflow-mul-loop invariant-loop decreases-loop
-mul-loop c = omega arith
+overflow_mul-n : tie.Need-overflow_mul-n invariant-loop-i decreases-loop-i
+overflow_mul-n c = omega arith
 
-duration-requires : tie.Need-duration-requires invariant-loop decreases-loop
-duration-requires c κs = tt
+duration-cycles-requires : tie.Need-duration-cycles-requires invariant-loop-i decreases-loop-i
+duration-cycles-requires c κs = tt
 
-add-put : tie.Need-overflow-add-put invariant-loop decreases-loop
-add-put c = omega arith
+overflow_add-i : tie.Need-overflow_add-i invariant-loop-i decreases-loop-i
+overflow_add-i c = omega arith
 
-put-requires : tie.Need-put-requires invariant-loop decreases-loop
+put-requires : tie.Need-put-requires invariant-loop-i decreases-loop-i
 put-requires c κs = tt
 
-add-put-2 : tie.Need-overflow-add-put-2 invariant-loop decreases-loop
-add-put-2 c = omega arith
+overflow_add-at : tie.Need-overflow_add-at invariant-loop-i decreases-loop-i
+overflow_add-at c = omega arith
 
-put-requires-2 : tie.Need-put-requires-2 invariant-loop decreases-loop
-put-requires-2 c κs = tt
+put-requires-then-cycles-gt0 : tie.Need-put-requires-then-cycles-gt0 invariant-loop-i decreases-loop-i
+put-requires-then-cycles-gt0 c κs = tt
 
-add_at : tie.Need-overflow-add-at invariant-loop decreases-loop
-add_at c = omega arith
+overflow_add-at-then-cycles-gt0 : tie.Need-overflow_add-at-then-cycles-gt0 invariant-loop-i decreases-loop-i
+overflow_add-at-then-cycles-gt0 c = omega arith
 
-add-i : tie.Need-overflow-add-i invariant-loop decreases-loop
-add-i c = omega arith
+overflow_add-i-in-loop-i : tie.Need-overflow_add-i-in-loop-i invariant-loop-i decreases-loop-i
+overflow_add-i-in-loop-i c = omega arith
 
-loop-less : tie.Need-loop-smaller invariant-loop decreases-loop
-loop-less c = omega arith
+loop-i-smaller : tie.Need-loop-i-smaller invariant-loop-i decreases-loop-i
+loop-i-smaller c = omega arith
 
-loop-again : tie.Need-loop-preserved invariant-loop decreases-loop
-loop-again c = ⊎_elim (λ w. omega arith) (λ w. omega arith) c.if1.branch
+loop-i-preserved : tie.Need-loop-i-preserved invariant-loop-i decreases-loop-i
+loop-i-preserved c = ⊎_elim (λ w. omega arith) (λ w. omega arith) c.if-cycles-gt0.branch
 
-returns : tie.Need-returns invariant-loop decreases-loop
+returns : tie.Need-returns invariant-loop-i decreases-loop-i
 returns c = omega arith
 
 pub put_uses_spec : {M : Type 1} → statement M
 put_uses_spec =
     tie.close
     (tie.spec
-    invariant-loop
-    decreases-loop
-    loop-holds
-    mul-loop
-    duration-requires
-    add-put
+    invariant-loop-i
+    decreases-loop-i
+    loop-i-init
+    overflow_mul-n
+    duration-cycles-requires
+    overflow_add-i
     put-requires
-    add-put-2
-    put-requires-2
-    add_at
-    add-i
-    loop-less
-    loop-again
+    overflow_add-at
+    put-requires-then-cycles-gt0
+    overflow_add-at-then-cycles-gt0
+    overflow_add-i-in-loop-i
+    loop-i-smaller
+    loop-i-preserved
     returns)

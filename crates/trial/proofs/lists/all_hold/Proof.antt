@@ -4,33 +4,33 @@ use Rattle.trial.specs.Lists.{all_hold}
 use Rattle.trial.proofs.lists.all_hold.Statement.{statement}
 use Rattle.trial.proofs.lists.all_hold.Tie as tie
 
-abbrev invariant-loop : tie.invariant-loop
-invariant-loop d starts interval held₀ e₀ held e = (e ≤ d.m) × (held ≡ all_hold d starts interval e)
+abbrev invariant-loop-e : tie.invariant-loop-e
+invariant-loop-e d starts interval held₀ e₀ held e = (e ≤ d.m) × (held ≡ all_hold d starts interval e)
 
-abbrev decreases-loop : tie.decreases-loop
-decreases-loop d starts interval held₀ e₀ held e = d.m - e
+abbrev decreases-loop-e : tie.decreases-loop-e
+decreases-loop-e d starts interval held₀ e₀ held e = d.m - e
 
-loop-holds : tie.Need-loop-init invariant-loop decreases-loop
+loop-e-init : tie.Need-loop-e-init invariant-loop-e decreases-loop-e
 unfolding all_hold
-loop-holds c = (omega arith, refl)
+loop-e-init c = (omega arith, refl)
 
-holds-requires : tie.Need-holds-requires invariant-loop decreases-loop
-holds-requires c κs = tt
+holds-held-requires : tie.Need-holds-held-requires invariant-loop-e decreases-loop-e
+holds-held-requires c κs = tt
 
-add-e : tie.Need-overflow-add-e invariant-loop decreases-loop
-add-e c = omega arith
+overflow_add-e : tie.Need-overflow_add-e invariant-loop-e decreases-loop-e
+overflow_add-e c = omega arith
 
-loop-less : tie.Need-loop-smaller invariant-loop decreases-loop
-loop-less c = omega arith
+loop-e-smaller : tie.Need-loop-e-smaller invariant-loop-e decreases-loop-e
+loop-e-smaller c = omega arith
 
-loop-again : tie.Need-loop-preserved invariant-loop decreases-loop
+loop-e-preserved : tie.Need-loop-e-preserved invariant-loop-e decreases-loop-e
 unfolding all_hold
-loop-again c = (omega arith, rw (add-one, ← c.before.before.before.loop.invariant.1, ← c.holds.ensures))
+loop-e-preserved c = (omega arith, rw (add-one, ← c.before.before.before.loop-e.invariant.1, ← c.holds-held.ensures))
 
-returns : tie.Need-returns invariant-loop decreases-loop
-returns c = c.before.before.loop.invariant.1 ∙ ap (all_hold _ _ _) (omega arith)
+returns : tie.Need-returns invariant-loop-e decreases-loop-e
+returns c = c.before.before.loop-e.invariant.1 ∙ ap (all_hold _ _ _) (omega arith)
 
 pub all_hold_spec : {M : Type 1} → statement M
 all_hold_spec =
     tie.close
-    (tie.spec invariant-loop decreases-loop loop-holds holds-requires add-e loop-less loop-again returns)
+    (tie.spec invariant-loop-e decreases-loop-e loop-e-init holds-held-requires overflow_add-e loop-e-smaller loop-e-preserved returns)

@@ -4,21 +4,21 @@ use Rattle.trial.specs.Lists.{legal_as, legal_in}
 use Rattle.trial.proofs.lists.legal.Statement.{statement}
 use Rattle.trial.proofs.lists.legal.Tie as tie
 
-word-requires : tie.Need-word-requires
-word-requires c κs = tt
+word-w-requires : tie.Need-word-w-requires
+word-w-requires c κs = tt
 
-returns : tie.Need-returns
+returns-then-w-gt0 : tie.Need-returns-then-w-gt0
 unfolding legal_as legal_in
-returns c = rw (← c.before.before.before.word.ensures, lt-ltb _ _ c.if1.true)
+returns-then-w-gt0 c = rw (← c.before.before.before.word-w.ensures, lt-ltb _ _ c.if-w-gt0.true)
 
 fits-requires : tie.Need-fits-requires
 fits-requires c κs = tt
 
-returns-2 : tie.Need-returns-2
+returns : tie.Need-returns
 unfolding legal_as legal_in
-returns-2 c =
+returns c =
     let w = c.before.before in
-    rw (← w.before.before.before.word.ensures, le-ltb _ _ w.if1.false) c.fits2.ensures
+    rw (← w.before.before.before.word-w.ensures, le-ltb _ _ w.if-w-gt0.false) c.fits2.ensures
 
 pub legal_spec : {M : Type 1} → statement M
-legal_spec = tie.close (tie.spec word-requires returns fits-requires returns-2)
+legal_spec = tie.close (tie.spec word-w-requires returns-then-w-gt0 fits-requires returns)

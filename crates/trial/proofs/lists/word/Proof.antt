@@ -4,54 +4,54 @@ use Rattle.trial.specs.Lists.{digits, word_of}
 use Rattle.trial.proofs.lists.word.Statement.{statement}
 use Rattle.trial.proofs.lists.word.Tie as tie
 
-abbrev invariant-loop : tie.invariant-loop
-invariant-loop code k horizon h starts₀ left₀ i₀ starts left i = (i ≤ 6) × (word_of code k horizon ≡ digits h starts left i)
+abbrev invariant-loop-i : tie.invariant-loop-i
+invariant-loop-i code k horizon h starts₀ left₀ i₀ starts left i = (i ≤ 6) × (word_of code k horizon ≡ digits h starts left i)
 
-abbrev decreases-loop : tie.decreases-loop
-decreases-loop code k horizon h starts₀ left₀ i₀ starts left i = i
+abbrev decreases-loop-i : tie.decreases-loop-i
+decreases-loop-i code k horizon h starts₀ left₀ i₀ starts left i = i
 
-larger-requires : tie.Need-larger-requires invariant-loop decreases-loop
-larger-requires c κs = tt
+larger-h-requires : tie.Need-larger-h-requires invariant-loop-i decreases-loop-i
+larger-h-requires c κs = tt
 
-least-requires : tie.Need-least-requires invariant-loop decreases-loop
-least-requires c κs = tt
+least-i-requires : tie.Need-least-i-requires invariant-loop-i decreases-loop-i
+least-i-requires c κs = tt
 
-loop-holds : tie.Need-loop-init invariant-loop decreases-loop
+loop-i-init : tie.Need-loop-i-init invariant-loop-i decreases-loop-i
 unfolding word_of
-loop-holds c = (omega arith, rw (← c.before.larger.ensures.0, ← c.least.ensures.0))
+loop-i-init c = (omega arith, rw (← c.before.larger-h.ensures.0, ← c.least-i.ensures.0))
 
-sub-i : tie.Need-overflow-sub-i invariant-loop decreases-loop
-sub-i c = omega arith
+overflow_sub-i : tie.Need-overflow_sub-i invariant-loop-i decreases-loop-i
+overflow_sub-i c = omega arith
 
-rem-starts : tie.Need-nonzero-rem-starts invariant-loop decreases-loop
-rem-starts c = omega arith
+nonzero_rem-starts : tie.Need-nonzero_rem-starts invariant-loop-i decreases-loop-i
+nonzero_rem-starts c = omega arith
 
-cast-starts : tie.Need-overflow-cast-starts invariant-loop decreases-loop
-cast-starts c = omega arith
+overflow_cast-starts : tie.Need-overflow_cast-starts invariant-loop-i decreases-loop-i
+overflow_cast-starts c = omega arith
 
-mul-starts : tie.Need-overflow-mul-starts invariant-loop decreases-loop
-mul-starts c = omega arith
+offset_bounds-starts-i : tie.Need-offset_bounds-starts-i invariant-loop-i decreases-loop-i
+offset_bounds-starts-i c = omega arith
 
-array-write-starts : tie.Need-array-write-starts invariant-loop decreases-loop
-array-write-starts c = omega arith
+bounds-starts-i : tie.Need-bounds-starts-i invariant-loop-i decreases-loop-i
+bounds-starts-i c = omega arith
 
-div-left : tie.Need-nonzero-div-left invariant-loop decreases-loop
-div-left c = omega arith
+nonzero_div-left : tie.Need-nonzero_div-left invariant-loop-i decreases-loop-i
+nonzero_div-left c = omega arith
 
-loop-less : tie.Need-loop-smaller invariant-loop decreases-loop
-loop-less c = omega arith
+loop-i-smaller : tie.Need-loop-i-smaller invariant-loop-i decreases-loop-i
+loop-i-smaller c = omega arith
 
-loop-again : tie.Need-loop-preserved invariant-loop decreases-loop
+loop-i-preserved : tie.Need-loop-i-preserved invariant-loop-i decreases-loop-i
 unfolding digits
-loop-again c =
-    let l = c.before.loop in
+loop-i-preserved c =
+    let l = c.before.loop-i in
     let one_more : l.i ≡ suc (l.i - 1) = omega arith in
     (omega arith, l.invariant.1 ∙ ap (digits _ _ _) one_more)
 
-returns : tie.Need-returns invariant-loop decreases-loop
+returns : tie.Need-returns invariant-loop-i decreases-loop-i
 unfolding digits
 returns c =
-    let l = c.before.loop in
+    let l = c.before.loop-i in
     let done : l.i ≡ 0 = omega arith in
     sym (l.invariant.1 ∙ ap (digits _ _ _) done)
 
@@ -59,17 +59,17 @@ pub word_spec : {M : Type 1} → statement M
 word_spec =
     tie.close
     (tie.spec
-    invariant-loop
-    decreases-loop
-    larger-requires
-    least-requires
-    loop-holds
-    sub-i
-    rem-starts
-    cast-starts
-    mul-starts
-    array-write-starts
-    div-left
-    loop-less
-    loop-again
+    invariant-loop-i
+    decreases-loop-i
+    larger-h-requires
+    least-i-requires
+    loop-i-init
+    overflow_sub-i
+    nonzero_rem-starts
+    overflow_cast-starts
+    offset_bounds-starts-i
+    bounds-starts-i
+    nonzero_div-left
+    loop-i-smaller
+    loop-i-preserved
     returns)

@@ -5,54 +5,54 @@ use Rattle.trial.proofs.Puts.{put_next}
 use Rattle.trial.proofs.loops.put.Statement.{statement}
 use Rattle.trial.proofs.loops.put.Tie as tie
 
-abbrev invariant-loop : tie.invariant-loop
-invariant-loop file₀ bytes i₀ file i = (i ≤ length bytes) × (file ≡ sets file₀ 0 (take i bytes))
+abbrev invariant-loop-i : tie.invariant-loop-i
+invariant-loop-i file₀ bytes i₀ file i = (i ≤ length bytes) × (file ≡ sets file₀ 0 (take i bytes))
 
-abbrev decreases-loop : tie.decreases-loop
-decreases-loop file₀ bytes i₀ file i = length bytes - i
+abbrev decreases-loop-i : tie.decreases-loop-i
+decreases-loop-i file₀ bytes i₀ file i = length bytes - i
 
-loop-holds : tie.Need-loop-init invariant-loop decreases-loop
-loop-holds c = (omega arith, refl)
+loop-i-init : tie.Need-loop-i-init invariant-loop-i decreases-loop-i
+loop-i-init c = (omega arith, refl)
 
-shared-slice-read-file : tie.Need-shared-slice-read-file invariant-loop decreases-loop
-shared-slice-read-file c = omega arith
+bounds-bytes-i : tie.Need-bounds-bytes-i invariant-loop-i decreases-loop-i
+bounds-bytes-i c = omega arith
 
-element-write-file : tie.Need-element-write-file invariant-loop decreases-loop
-element-write-file c = omega arith
+bounds-file-i : tie.Need-bounds-file-i invariant-loop-i decreases-loop-i
+bounds-file-i c = omega arith
 
-add-i : tie.Need-overflow-add-i invariant-loop decreases-loop
-add-i c = omega arith
+overflow_add-i : tie.Need-overflow_add-i invariant-loop-i decreases-loop-i
+overflow_add-i c = omega arith
 
-loop-less : tie.Need-loop-smaller invariant-loop decreases-loop
-loop-less c = omega arith
+loop-i-smaller : tie.Need-loop-i-smaller invariant-loop-i decreases-loop-i
+loop-i-smaller c = omega arith
 
-loop-again : tie.Need-loop-preserved invariant-loop decreases-loop
-loop-again c =
+loop-i-preserved : tie.Need-loop-i-preserved invariant-loop-i decreases-loop-i
+loop-i-preserved c =
     let g = c.before.before in
     let a = g.before.args in
-    let j = g.loop.i in (
+    let j = g.loop-i.i in (
       omega arith,
-      ap (λ (l : List ℕ). set l j (get_or a.bytes.now j 0)) g.loop.invariant.1 ∙ put_next a.file.now a.bytes.now j (omega arith),
+      ap (λ (l : List ℕ). set l j (get_or a.bytes.now j 0)) g.loop-i.invariant.1 ∙ put_next a.file.now a.bytes.now j (omega arith),
     )
 
-returns : tie.Need-returns invariant-loop decreases-loop
+returns : tie.Need-returns invariant-loop-i decreases-loop-i
 returns c =
     let a = c.before.before.args in
-    let done : c.before.loop.i ≡ length a.bytes.now = omega arith in (
+    let done : c.before.loop-i.i ≡ length a.bytes.now = omega arith in (
       done,
-      c.before.loop.invariant.1 ∙ ap (λ (n : ℕ). sets a.file.now 0 (take n a.bytes.now)) done ∙ ap (sets a.file.now 0) (take-length a.bytes.now),
+      c.before.loop-i.invariant.1 ∙ ap (λ (n : ℕ). sets a.file.now 0 (take n a.bytes.now)) done ∙ ap (sets a.file.now 0) (take-length a.bytes.now),
     )
 
 pub put_spec : {M : Type 1} → statement M
 put_spec =
     tie.close
     (tie.spec
-    invariant-loop
-    decreases-loop
-    loop-holds
-    shared-slice-read-file
-    element-write-file
-    add-i
-    loop-less
-    loop-again
+    invariant-loop-i
+    decreases-loop-i
+    loop-i-init
+    bounds-bytes-i
+    bounds-file-i
+    overflow_add-i
+    loop-i-smaller
+    loop-i-preserved
     returns)

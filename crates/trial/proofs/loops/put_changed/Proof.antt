@@ -3,19 +3,19 @@ use Rattle.std.proofs.Common.{ℕ, List, set, ap, arith, le-ltb, lt-ltb}
 use Rattle.trial.proofs.loops.put_changed.Statement.{statement}
 use Rattle.trial.proofs.loops.put_changed.Tie as tie
 
-put-loop-requires : tie.Need-put-loop-requires
-put-loop-requires c κs = tt
+put_loop-requires : tie.Need-put_loop-requires
+put_loop-requires c κs = tt
 
-element-write-file : tie.Need-element-write-file
-element-write-file c = omega arith
+bounds-file-at : tie.Need-bounds-file-at
+bounds-file-at c = omega arith
 
-returns : tie.Need-returns
-returns c =
+returns-then-at-lt2000 : tie.Need-returns-then-at-lt2000
+returns-then-at-lt2000 c =
     let a = c.before.before.before.args in
-    simp (lt-ltb a.at 2000 c.if1.true) (ap (λ (l : List ℕ). set l a.at a.byte) c.before.put-loop.ensures.1)
+    simp (lt-ltb a.at 2000 c.if-at-lt2000.true) (ap (λ (l : List ℕ). set l a.at a.byte) c.before.put_loop.ensures.1)
 
-returns-2 : tie.Need-returns-2
-returns-2 c = simp (le-ltb c.before.before.before.args.at 2000 c.if1.false) c.before.put-loop.ensures.1
+returns-else-at-lt2000 : tie.Need-returns-else-at-lt2000
+returns-else-at-lt2000 c = simp (le-ltb c.before.before.before.args.at 2000 c.if-at-lt2000.false) c.before.put_loop.ensures.1
 
 pub put_changed_spec : {M : Type 1} → statement M
-put_changed_spec = tie.close (tie.spec put-loop-requires element-write-file returns returns-2)
+put_changed_spec = tie.close (tie.spec put_loop-requires bounds-file-at returns-then-at-lt2000 returns-else-at-lt2000)

@@ -28,11 +28,11 @@ returns c =
     let u = v.before.before.before in
     rw (
       ← u.before.duration.ensures,
-      ← v.before.duration2.ensures,
-      ← c.before.duration3.ensures,
+      ← v.before.duration-2.ensures,
+      ← c.before.duration-3.ensures,
       ← u.paint.ensures,
-      ← v.paint2.ensures,
-    ) c.paint3.ensures
+      ← v.paint-2.ensures,
+    ) c.paint-3.ensures
 
 pub add_spec : {M : Type 1} → statement M
 add_spec =

@@ -7,23 +7,23 @@ use Rattle.trial.proofs.picture.cover.Tie as tie
 duration-requires : tie.Need-duration-requires
 duration-requires c κs = tt
 
-wrapping-add-usize-requires : tie.Need-wrapping-add-usize-requires
-wrapping-add-usize-requires c κs = tt
+wrapping_add_usize-requires : tie.Need-wrapping_add_usize-requires
+wrapping_add_usize-requires c κs = tt
 
 dab-requires : tie.Need-dab-requires
 dab-requires c κs = tt
 
-returns : tie.Need-returns
+returns-then-k-duration : tie.Need-returns-then-k-duration
 unfolding covered_by
-returns c =
+returns-then-k-duration c =
     let w = c.before.before.before in
-    rw (← w.before.duration.ensures, lt-ltb _ _ w.if1.true, ← c.before.wrapping-add-usize.ensures) c.dab.ensures
+    rw (← w.before.duration.ensures, lt-ltb _ _ w.if-k-duration.true, ← c.before.wrapping_add_usize.ensures) c.dab.ensures
 
-returns-2 : tie.Need-returns-2
+returns-else-k-duration : tie.Need-returns-else-k-duration
 unfolding covered_by
-returns-2 c = rw (← c.before.duration.ensures, le-ltb _ _ c.if1.false)
+returns-else-k-duration c = rw (← c.before.duration.ensures, le-ltb _ _ c.if-k-duration.false)
 
 pub cover_spec : {M : Type 1} → statement M
 cover_spec =
     tie.close
-    (tie.spec duration-requires wrapping-add-usize-requires dab-requires returns returns-2)
+    (tie.spec duration-requires wrapping_add_usize-requires dab-requires returns-then-k-duration returns-else-k-duration)

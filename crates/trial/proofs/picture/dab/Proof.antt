@@ -4,61 +4,61 @@ use Rattle.trial.specs.Picture.{dabbed}
 use Rattle.trial.proofs.picture.dab.Statement.{statement}
 use Rattle.trial.proofs.picture.dab.Tie as tie
 
-rem_row : tie.Need-nonzero-rem-row
-rem_row c = omega arith
+nonzero_rem-row : tie.Need-nonzero_rem-row
+nonzero_rem-row c = omega arith
 
-mul-wrapping-add-u8 : tie.Need-overflow-mul-wrapping-add-u8
-mul-wrapping-add-u8 c = omega arith
+overflow_mul-slot : tie.Need-overflow_mul-slot
+overflow_mul-slot c = omega arith
 
-add-wrapping-add-u8 : tie.Need-overflow-add-wrapping-add-u8
-add-wrapping-add-u8 c = omega arith
+overflow_add-slot : tie.Need-overflow_add-slot
+overflow_add-slot c = omega arith
 
-element-copy-out-wrapping-add-u8 : tie.Need-element-copy-out-wrapping-add-u8
-element-copy-out-wrapping-add-u8 c = omega arith
+bounds-picture-slot : tie.Need-bounds-picture-slot
+bounds-picture-slot c = omega arith
 
-wrapping-add-u8-requires : tie.Need-wrapping-add-u8-requires
-wrapping-add-u8-requires c κs = tt
+wrapping_add_u8-requires : tie.Need-wrapping_add_u8-requires
+wrapping_add_u8-requires c κs = tt
 
-mul-picture : tie.Need-overflow-mul-picture
-mul-picture c = omega arith
+overflow_mul-picture : tie.Need-overflow_mul-picture
+overflow_mul-picture c = omega arith
 
-add-picture : tie.Need-overflow-add-picture
-add-picture c = omega arith
+overflow_add-picture : tie.Need-overflow_add-picture
+overflow_add-picture c = omega arith
 
-element-write-picture : tie.Need-element-write-picture
-element-write-picture c = omega arith
+bounds-picture-slot-then-row-lt8 : tie.Need-bounds-picture-slot-then-row-lt8
+bounds-picture-slot-then-row-lt8 c = omega arith
 
-returns : tie.Need-returns
+returns-then-row-lt8 : tie.Need-returns-then-row-lt8
 unfolding dabbed
-returns c =
+returns-then-row-lt8 c =
     let w = c.before.before in
-    rw (lt-ltb _ _ w.before.before.if1.true, lt-ltb _ _ w.before.if2.true, lt-ltb _ _ w.if3.true, ← c.wrapping-add-u8.ensures)
+    rw (lt-ltb _ _ w.before.before.if-slot-lt3.true, lt-ltb _ _ w.before.if-interval-gt0.true, lt-ltb _ _ w.if-row-lt8.true, ← c.wrapping_add_u8.ensures)
 
-returns-2 : tie.Need-returns-2
+returns-else-row-lt8 : tie.Need-returns-else-row-lt8
 unfolding dabbed
-returns-2 c = rw (lt-ltb _ _ c.before.before.if1.true, lt-ltb _ _ c.before.if2.true, le-ltb _ _ c.if3.false)
+returns-else-row-lt8 c = rw (lt-ltb _ _ c.before.before.if-slot-lt3.true, lt-ltb _ _ c.before.if-interval-gt0.true, le-ltb _ _ c.if-row-lt8.false)
 
-returns-3 : tie.Need-returns-3
+returns-else-interval-gt0 : tie.Need-returns-else-interval-gt0
 unfolding dabbed
-returns-3 c = rw (lt-ltb _ _ c.before.if1.true, le-ltb _ _ c.if2.false)
+returns-else-interval-gt0 c = rw (lt-ltb _ _ c.before.if-slot-lt3.true, le-ltb _ _ c.if-interval-gt0.false)
 
-returns-4 : tie.Need-returns-4
+returns-else-slot-lt3 : tie.Need-returns-else-slot-lt3
 unfolding dabbed
-returns-4 c = rw (le-ltb _ _ c.if1.false)
+returns-else-slot-lt3 c = rw (le-ltb _ _ c.if-slot-lt3.false)
 
 pub dab_spec : {M : Type 1} → statement M
 dab_spec =
     tie.close
     (tie.spec
-    rem_row
-    mul-wrapping-add-u8
-    add-wrapping-add-u8
-    element-copy-out-wrapping-add-u8
-    wrapping-add-u8-requires
-    mul-picture
-    add-picture
-    element-write-picture
-    returns
-    returns-2
-    returns-3
-    returns-4)
+    nonzero_rem-row
+    overflow_mul-slot
+    overflow_add-slot
+    bounds-picture-slot
+    wrapping_add_u8-requires
+    overflow_mul-picture
+    overflow_add-picture
+    bounds-picture-slot-then-row-lt8
+    returns-then-row-lt8
+    returns-else-row-lt8
+    returns-else-interval-gt0
+    returns-else-slot-lt3)

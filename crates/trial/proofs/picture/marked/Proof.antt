@@ -4,45 +4,45 @@ use Rattle.trial.specs.Picture.{marked_in}
 use Rattle.trial.proofs.picture.marked.Statement.{statement}
 use Rattle.trial.proofs.picture.marked.Tie as tie
 
-rem_row : tie.Need-nonzero-rem-row
-rem_row c = omega arith
+nonzero_rem-row : tie.Need-nonzero_rem-row
+nonzero_rem-row c = omega arith
 
-mul-result : tie.Need-overflow-mul-result
-mul-result c = omega arith
+overflow_mul-result : tie.Need-overflow_mul-result
+overflow_mul-result c = omega arith
 
-add-result : tie.Need-overflow-add-result
-add-result c = omega arith
+overflow_add-result : tie.Need-overflow_add-result
+overflow_add-result c = omega arith
 
-element-copy-out-result : tie.Need-element-copy-out-result
-element-copy-out-result c = omega arith
+bounds-picture-slot : tie.Need-bounds-picture-slot
+bounds-picture-slot c = omega arith
 
-returns : tie.Need-returns
+returns-then-row-lt8 : tie.Need-returns-then-row-lt8
 unfolding marked_in
-returns c =
+returns-then-row-lt8 c =
     let w = c.before in
-    rw (lt-ltb _ _ w.before.before.if1.true, lt-ltb _ _ w.before.if2.true, lt-ltb _ _ w.if3.true)
+    rw (lt-ltb _ _ w.before.before.if-slot-lt3.true, lt-ltb _ _ w.before.if-interval-gt0.true, lt-ltb _ _ w.if-row-lt8.true)
 
-returns-2 : tie.Need-returns-2
+returns-else-row-lt8 : tie.Need-returns-else-row-lt8
 unfolding marked_in
-returns-2 c = rw (lt-ltb _ _ c.before.before.if1.true, lt-ltb _ _ c.before.if2.true, le-ltb _ _ c.if3.false)
+returns-else-row-lt8 c = rw (lt-ltb _ _ c.before.before.if-slot-lt3.true, lt-ltb _ _ c.before.if-interval-gt0.true, le-ltb _ _ c.if-row-lt8.false)
 
-returns-3 : tie.Need-returns-3
+returns-else-interval-gt0 : tie.Need-returns-else-interval-gt0
 unfolding marked_in
-returns-3 c = rw (lt-ltb _ _ c.before.if1.true, le-ltb _ _ c.if2.false)
+returns-else-interval-gt0 c = rw (lt-ltb _ _ c.before.if-slot-lt3.true, le-ltb _ _ c.if-interval-gt0.false)
 
-returns-4 : tie.Need-returns-4
+returns-else-slot-lt3 : tie.Need-returns-else-slot-lt3
 unfolding marked_in
-returns-4 c = rw (le-ltb _ _ c.if1.false)
+returns-else-slot-lt3 c = rw (le-ltb _ _ c.if-slot-lt3.false)
 
 pub marked_spec : {M : Type 1} → statement M
 marked_spec =
     tie.close
     (tie.spec
-    rem_row
-    mul-result
-    add-result
-    element-copy-out-result
-    returns
-    returns-2
-    returns-3
-    returns-4)
+    nonzero_rem-row
+    overflow_mul-result
+    overflow_add-result
+    bounds-picture-slot
+    returns-then-row-lt8
+    returns-else-row-lt8
+    returns-else-interval-gt0
+    returns-else-slot-lt3)

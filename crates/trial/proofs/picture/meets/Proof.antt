@@ -7,23 +7,23 @@ use Rattle.trial.proofs.picture.meets.Tie as tie
 duration-requires : tie.Need-duration-requires
 duration-requires c κs = tt
 
-wrapping-add-usize-requires : tie.Need-wrapping-add-usize-requires
-wrapping-add-usize-requires c κs = tt
+wrapping_add_usize-requires : tie.Need-wrapping_add_usize-requires
+wrapping_add_usize-requires c κs = tt
 
 marked-requires : tie.Need-marked-requires
 marked-requires c κs = tt
 
+returns-then-k-duration : tie.Need-returns-then-k-duration
+unfolding meets_in
+returns-then-k-duration c =
+    let w = c.before.before in
+    rw (← w.before.duration.ensures, lt-ltb _ _ w.if-k-duration.true, ← c.before.wrapping_add_usize.ensures) c.marked.ensures
+
 returns : tie.Need-returns
 unfolding meets_in
-returns c =
-    let w = c.before.before in
-    rw (← w.before.duration.ensures, lt-ltb _ _ w.if1.true, ← c.before.wrapping-add-usize.ensures) c.marked.ensures
-
-returns-2 : tie.Need-returns-2
-unfolding meets_in
-returns-2 c = rw (← c.before.duration.ensures, le-ltb _ _ c.if1.false)
+returns c = rw (← c.before.duration.ensures, le-ltb _ _ c.if-k-duration.false)
 
 pub meets_spec : {M : Type 1} → statement M
 meets_spec =
     tie.close
-    (tie.spec duration-requires wrapping-add-usize-requires marked-requires returns returns-2)
+    (tie.spec duration-requires wrapping_add_usize-requires marked-requires returns-then-k-duration returns)

@@ -4,49 +4,49 @@ use Rattle.trial.specs.Picture.{painted}
 use Rattle.trial.proofs.picture.paint.Statement.{statement}
 use Rattle.trial.proofs.picture.paint.Tie as tie
 
-abbrev invariant-loop : tie.invariant-loop
-invariant-loop picture₀ slot cycles start interval k₀ picture k = (k ≤ cycles) × (picture ≡ painted picture₀ slot k start interval)
+abbrev invariant-loop-k : tie.invariant-loop-k
+invariant-loop-k picture₀ slot cycles start interval k₀ picture k = (k ≤ cycles) × (picture ≡ painted picture₀ slot k start interval)
 
-abbrev decreases-loop : tie.decreases-loop
-decreases-loop picture₀ slot cycles start interval k₀ picture k = cycles - k
+abbrev decreases-loop-k : tie.decreases-loop-k
+decreases-loop-k picture₀ slot cycles start interval k₀ picture k = cycles - k
 
-loop-holds : tie.Need-loop-init invariant-loop decreases-loop
+loop-k-init : tie.Need-loop-k-init invariant-loop-k decreases-loop-k
 unfolding painted
-loop-holds c = (omega arith, refl)
+loop-k-init c = (omega arith, refl)
 
-wrapping-add-usize-requires : tie.Need-wrapping-add-usize-requires invariant-loop decreases-loop
-wrapping-add-usize-requires c κs = tt
+wrapping_add_usize-requires : tie.Need-wrapping_add_usize-requires invariant-loop-k decreases-loop-k
+wrapping_add_usize-requires c κs = tt
 
-dab-requires : tie.Need-dab-requires invariant-loop decreases-loop
+dab-requires : tie.Need-dab-requires invariant-loop-k decreases-loop-k
 dab-requires c κs = tt
 
-add-k : tie.Need-overflow-add-k invariant-loop decreases-loop
-add-k c = omega arith
+overflow_add-k : tie.Need-overflow_add-k invariant-loop-k decreases-loop-k
+overflow_add-k c = omega arith
 
-loop-less : tie.Need-loop-smaller invariant-loop decreases-loop
-loop-less c = omega arith
+loop-k-smaller : tie.Need-loop-k-smaller invariant-loop-k decreases-loop-k
+loop-k-smaller c = omega arith
 
-loop-again : tie.Need-loop-preserved invariant-loop decreases-loop
+loop-k-preserved : tie.Need-loop-k-preserved invariant-loop-k decreases-loop-k
 unfolding painted
-loop-again c =
+loop-k-preserved c =
     let w = c.before in
-    (omega arith, rw (add-one, ← w.wrapping-add-usize.ensures, ← w.before.before.before.loop.invariant.1) c.dab.ensures)
+    (omega arith, rw (add-one, ← w.wrapping_add_usize.ensures, ← w.before.before.before.loop-k.invariant.1) c.dab.ensures)
 
-returns : tie.Need-returns invariant-loop decreases-loop
+returns : tie.Need-returns invariant-loop-k decreases-loop-k
 returns c =
-    let all : c.before.loop.k ≡ c.before.before.args.cycles = omega arith in
-    rw (← all) c.before.loop.invariant.1
+    let all : c.before.loop-k.k ≡ c.before.before.args.cycles = omega arith in
+    rw (← all) c.before.loop-k.invariant.1
 
 pub paint_spec : {M : Type 1} → statement M
 paint_spec =
     tie.close
     (tie.spec
-    invariant-loop
-    decreases-loop
-    loop-holds
-    wrapping-add-usize-requires
+    invariant-loop-k
+    decreases-loop-k
+    loop-k-init
+    wrapping_add_usize-requires
     dab-requires
-    add-k
-    loop-less
-    loop-again
+    overflow_add-k
+    loop-k-smaller
+    loop-k-preserved
     returns)

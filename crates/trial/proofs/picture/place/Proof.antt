@@ -24,71 +24,71 @@ place_next : (cells : List ℕ) (d : Drawn) (op start interval : ℕ) (own : Boo
 unfolding place_from
 place_next cells d op start interval own i e f h new g = rw (e, ← f, h, g, add-one)
 
-abbrev invariant-loop : tie.invariant-loop
-invariant-loop d op start interval own s n cells₀ i₀ cells i =
+abbrev invariant-loop-i : tie.invariant-loop-i
+invariant-loop-i d op start interval own s n cells₀ i₀ cells i =
     (i ≤ 48) × (place_from cells₀ d op start interval own 0 48 ≡ place_from cells d op start interval own i (48 - i))
 
-abbrev decreases-loop : tie.decreases-loop
-decreases-loop d op start interval own s n cells₀ i₀ cells i = 48 - i
+abbrev decreases-loop-i : tie.decreases-loop-i
+decreases-loop-i d op start interval own s n cells₀ i₀ cells i = 48 - i
 
-loop-holds : tie.Need-loop-init invariant-loop decreases-loop
-loop-holds c = (omega arith, refl)
+loop-i-init : tie.Need-loop-i-init invariant-loop-i decreases-loop-i
+loop-i-init c = (omega arith, refl)
 
-meets-requires : tie.Need-meets-requires invariant-loop decreases-loop
+meets-requires : tie.Need-meets-requires invariant-loop-i decreases-loop-i
 meets-requires c κs = tt
 
-mul-result : tie.Need-overflow-mul-result invariant-loop decreases-loop
-mul-result c = omega arith
+overflow_mul-result : tie.Need-overflow_mul-result invariant-loop-i decreases-loop-i
+overflow_mul-result c = omega arith
 
-add-result : tie.Need-overflow-add-result invariant-loop decreases-loop
-add-result c = omega arith
+overflow_add-result : tie.Need-overflow_add-result invariant-loop-i decreases-loop-i
+overflow_add-result c = omega arith
 
-add-result-2 : tie.Need-overflow-add-result-2 invariant-loop decreases-loop
-add-result-2 c = omega arith
+overflow_add-result-then-meets : tie.Need-overflow_add-result-then-meets invariant-loop-i decreases-loop-i
+overflow_add-result-then-meets c = omega arith
 
-returns : tie.Need-returns invariant-loop decreases-loop
-returns c =
+returns-then-meets : tie.Need-returns-then-meets invariant-loop-i decreases-loop-i
+returns-then-meets c =
     let l = c.before.before.before.before in
-    let more : 48 - l.loop.i ≡ suc (48 - (l.loop.i + 1)) = omega arith in
-    sym (l.loop.invariant.1 ∙ place_met _ _ _ _ _ _ _ more c.before.meets.ensures c.if1.true)
+    let more : 48 - l.loop-i.i ≡ suc (48 - (l.loop-i.i + 1)) = omega arith in
+    sym (l.loop-i.invariant.1 ∙ place_met _ _ _ _ _ _ _ more c.before.meets.ensures c.if-meets.true)
 
-cover-requires : tie.Need-cover-requires invariant-loop decreases-loop
+cover-requires : tie.Need-cover-requires invariant-loop-i decreases-loop-i
 cover-requires c κs = tt
 
-add-i : tie.Need-overflow-add-i invariant-loop decreases-loop
-add-i c = omega arith
+overflow_add-i : tie.Need-overflow_add-i invariant-loop-i decreases-loop-i
+overflow_add-i c = omega arith
 
-loop-less : tie.Need-loop-smaller invariant-loop decreases-loop
-loop-less c = omega arith
+loop-i-smaller : tie.Need-loop-i-smaller invariant-loop-i decreases-loop-i
+loop-i-smaller c = omega arith
 
-loop-again : tie.Need-loop-preserved invariant-loop decreases-loop
-loop-again c =
+loop-i-preserved : tie.Need-loop-i-preserved invariant-loop-i decreases-loop-i
+loop-i-preserved c =
     let l = c.before.before.before.before.before in
-    let more : 48 - l.loop.i ≡ suc (48 - (l.loop.i + 1)) = omega arith in
-    let up : l.loop.i + 1 ≤ 48 = omega arith in
-    let next = place_next _ _ _ _ _ _ _ more c.before.before.meets.ensures c.before.if1.false c.if2.cells in
-    (up, l.loop.invariant.1 ∙ next (⊎_elim (λ w. rw (w.0.taken, w.3) w.2.ensures) (λ w. rw w.0.left w.1) c.if2.branch))
+    let more : 48 - l.loop-i.i ≡ suc (48 - (l.loop-i.i + 1)) = omega arith in
+    let up : l.loop-i.i + 1 ≤ 48 = omega arith in
+    let next = place_next _ _ _ _ _ _ _ more c.before.before.meets.ensures c.before.if-meets.false c.if-own.cells-1 in
+    (up, l.loop-i.invariant.1 ∙ next (⊎_elim (λ w. rw (w.0.taken, w.3) w.2.ensures) (λ w. rw w.0.left w.1) c.if-own.branch))
 
-returns-2 : tie.Need-returns-2 invariant-loop decreases-loop
-returns-2 c =
+returns : tie.Need-returns invariant-loop-i decreases-loop-i
+returns c =
     let l = c.before in
-    let done : 48 - l.loop.i ≡ 0 = omega arith in
-    sym (l.loop.invariant.1 ∙ place_none _ _ _ _ _ _ _ done)
+    let done : 48 - l.loop-i.i ≡ 0 = omega arith in
+    sym (l.loop-i.invariant.1 ∙ place_none _ _ _ _ _ _ _ done)
 
 pub place_spec : {M : Type 1} → statement M
 place_spec =
     tie.close
     (tie.spec
-    invariant-loop
-    decreases-loop
-    loop-holds
+    invariant-loop-i
+    decreases-loop-i
+    loop-i-init
     meets-requires
-    mul-result
-    add-result
-    add-result-2
-    returns
+    overflow_mul-result
+    overflow_add-result
+    overflow_add-result-then-meets
+    returns-then-meets
     cover-requires
-    add-i
-    loop-less
-    loop-again
-    returns-2)
+    overflow_add-i
+    loop-i-smaller
+    loop-i-preserved
+    returns)

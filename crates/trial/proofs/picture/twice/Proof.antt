@@ -4,33 +4,33 @@ use Rattle.trial.specs.Picture.{twice_in}
 use Rattle.trial.proofs.picture.twice.Statement.{statement}
 use Rattle.trial.proofs.picture.twice.Tie as tie
 
-abbrev invariant-loop : tie.invariant-loop
-invariant-loop picture found₀ i₀ found i = (i ≤ 24) × (found ≡ twice_in picture i)
+abbrev invariant-loop-i : tie.invariant-loop-i
+invariant-loop-i picture found₀ i₀ found i = (i ≤ 24) × (found ≡ twice_in picture i)
 
-abbrev decreases-loop : tie.decreases-loop
-decreases-loop picture found₀ i₀ found i = 24 - i
+abbrev decreases-loop-i : tie.decreases-loop-i
+decreases-loop-i picture found₀ i₀ found i = 24 - i
 
-loop-holds : tie.Need-loop-init invariant-loop decreases-loop
+loop-i-init : tie.Need-loop-i-init invariant-loop-i decreases-loop-i
 unfolding twice_in
-loop-holds c = (omega arith, refl)
+loop-i-init c = (omega arith, refl)
 
-element-copy-out-found : tie.Need-element-copy-out-found invariant-loop decreases-loop
-element-copy-out-found c = omega arith
+bounds-picture-i : tie.Need-bounds-picture-i invariant-loop-i decreases-loop-i
+bounds-picture-i c = omega arith
 
-add-i : tie.Need-overflow-add-i invariant-loop decreases-loop
-add-i c = omega arith
+overflow_add-i : tie.Need-overflow_add-i invariant-loop-i decreases-loop-i
+overflow_add-i c = omega arith
 
-loop-less : tie.Need-loop-smaller invariant-loop decreases-loop
-loop-less c = omega arith
+loop-i-smaller : tie.Need-loop-i-smaller invariant-loop-i decreases-loop-i
+loop-i-smaller c = omega arith
 
-loop-again : tie.Need-loop-preserved invariant-loop decreases-loop
+loop-i-preserved : tie.Need-loop-i-preserved invariant-loop-i decreases-loop-i
 unfolding twice_in
-loop-again c = (omega arith, rw (add-one, ← c.before.before.loop.invariant.1))
+loop-i-preserved c = (omega arith, rw (add-one, ← c.before.before.loop-i.invariant.1))
 
-returns : tie.Need-returns invariant-loop decreases-loop
-returns c = c.before.loop.invariant.1 ∙ ap (twice_in _) (omega arith)
+returns : tie.Need-returns invariant-loop-i decreases-loop-i
+returns c = c.before.loop-i.invariant.1 ∙ ap (twice_in _) (omega arith)
 
 pub twice_spec : {M : Type 1} → statement M
 twice_spec =
     tie.close
-    (tie.spec invariant-loop decreases-loop loop-holds element-copy-out-found add-i loop-less loop-again returns)
+    (tie.spec invariant-loop-i decreases-loop-i loop-i-init bounds-picture-i overflow_add-i loop-i-smaller loop-i-preserved returns)

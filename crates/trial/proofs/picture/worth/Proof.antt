@@ -4,16 +4,16 @@ use Rattle.trial.specs.Picture.{worth_of}
 use Rattle.trial.proofs.picture.worth.Statement.{statement}
 use Rattle.trial.proofs.picture.worth.Tie as tie
 
-element-copy-out-if1 : tie.Need-element-copy-out-if1
-element-copy-out-if1 c = omega arith
+bounds-picture-cell : tie.Need-bounds-picture-cell
+bounds-picture-cell c = omega arith
 
-returns : tie.Need-returns
+returns-then-picture-cell-gt0 : tie.Need-returns-then-picture-cell-gt0
 unfolding worth_of
-returns c = (rw (lt-ltb _ _ c.if1.true), omega arith)
+returns-then-picture-cell-gt0 c = (rw (lt-ltb _ _ c.if-picture-cell-gt0.true), omega arith)
 
-returns-2 : tie.Need-returns-2
+returns-else-picture-cell-gt0 : tie.Need-returns-else-picture-cell-gt0
 unfolding worth_of
-returns-2 c = (rw (le-ltb _ _ c.if1.false), omega arith)
+returns-else-picture-cell-gt0 c = (rw (le-ltb _ _ c.if-picture-cell-gt0.false), omega arith)
 
 pub worth_spec : {M : Type 1} → statement M
-worth_spec = tie.close (tie.spec element-copy-out-if1 returns returns-2)
+worth_spec = tie.close (tie.spec bounds-picture-cell returns-then-picture-cell-gt0 returns-else-picture-cell-gt0)

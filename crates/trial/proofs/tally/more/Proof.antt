@@ -4,37 +4,37 @@ use Rattle.trial.specs.Tally.{more_of}
 use Rattle.trial.proofs.tally.more.Statement.{statement}
 use Rattle.trial.proofs.tally.more.Tie as tie
 
-mul-wrapping-add-usize : tie.Need-overflow-mul-wrapping-add-usize
-mul-wrapping-add-usize c = omega arith
+offset_bounds-out-kind : tie.Need-offset_bounds-out-kind
+offset_bounds-out-kind c = omega arith
 
-array-read-wrapping-add-usize : tie.Need-array-read-wrapping-add-usize
-array-read-wrapping-add-usize c = omega arith
+bounds-out-kind : tie.Need-bounds-out-kind
+bounds-out-kind c = omega arith
 
-wrapping-add-usize-requires : tie.Need-wrapping-add-usize-requires
-wrapping-add-usize-requires c κs = tt
+wrapping_add_usize-requires : tie.Need-wrapping_add_usize-requires
+wrapping_add_usize-requires c κs = tt
 
-mul-out : tie.Need-overflow-mul-out
-mul-out c = omega arith
+offset_bounds-out-kind-then-kind-lt9 : tie.Need-offset_bounds-out-kind-then-kind-lt9
+offset_bounds-out-kind-then-kind-lt9 c = omega arith
 
-array-write-out : tie.Need-array-write-out
-array-write-out c = omega arith
+bounds-out-kind-then-kind-lt9 : tie.Need-bounds-out-kind-then-kind-lt9
+bounds-out-kind-then-kind-lt9 c = omega arith
 
-returns : tie.Need-returns
+returns-then-kind-lt9 : tie.Need-returns-then-kind-lt9
 unfolding more_of
-returns c = rw (lt-ltb _ _ c.before.if1.true, ← c.wrapping-add-usize.ensures)
+returns-then-kind-lt9 c = rw (lt-ltb _ _ c.before.if-kind-lt9.true, ← c.wrapping_add_usize.ensures)
 
-returns-2 : tie.Need-returns-2
+returns-else-kind-lt9 : tie.Need-returns-else-kind-lt9
 unfolding more_of
-returns-2 c = rw (le-ltb _ _ c.if1.false)
+returns-else-kind-lt9 c = rw (le-ltb _ _ c.if-kind-lt9.false)
 
 pub more_spec : {M : Type 1} → statement M
 more_spec =
     tie.close
     (tie.spec
-    mul-wrapping-add-usize
-    array-read-wrapping-add-usize
-    wrapping-add-usize-requires
-    mul-out
-    array-write-out
-    returns
-    returns-2)
+    offset_bounds-out-kind
+    bounds-out-kind
+    wrapping_add_usize-requires
+    offset_bounds-out-kind-then-kind-lt9
+    bounds-out-kind-then-kind-lt9
+    returns-then-kind-lt9
+    returns-else-kind-lt9)

@@ -18,60 +18,60 @@ use Rattle.verifier.proofs.walk.first_late.Tie as tie
 abbrev late : List ℕ → ℕ → Bool
 late xs o = leb 4096 (get_or xs o 0)
 
-abbrev invariant-loop : tie.invariant-loop
-invariant-loop starts n o₀ o = (o ≤ n) × ((k : ℕ) → k < o → late starts k ≡ false)
+abbrev invariant-loop-o : tie.invariant-loop-o
+invariant-loop-o starts n o₀ o = (o ≤ n) × ((k : ℕ) → k < o → late starts k ≡ false)
 
-abbrev decreases-loop : tie.decreases-loop
-decreases-loop starts n o₀ o = n - o
+abbrev decreases-loop-o : tie.decreases-loop-o
+decreases-loop-o starts n o₀ o = n - o
 
-loop-holds : tie.Need-loop-init invariant-loop decreases-loop
-loop-holds c = (omega arith, λ k l. absurd (omega arith))
+loop-o-init : tie.Need-loop-o-init invariant-loop-o decreases-loop-o
+loop-o-init c = (omega arith, λ k l. absurd (omega arith))
 
-mul-if1 : tie.Need-overflow-mul-if1 invariant-loop decreases-loop
-mul-if1 c = omega arith
+offset_bounds-starts-o : tie.Need-offset_bounds-starts-o invariant-loop-o decreases-loop-o
+offset_bounds-starts-o c = omega arith
 
-shared-slice-read-if1 : tie.Need-shared-slice-read-if1 invariant-loop decreases-loop
-shared-slice-read-if1 c = omega arith
+bounds-starts-o : tie.Need-bounds-starts-o invariant-loop-o decreases-loop-o
+bounds-starts-o c = omega arith
 
-returns : tie.Need-returns invariant-loop decreases-loop
+returns-then-starts-o-ge4096 : tie.Need-returns-then-starts-o-ge4096 invariant-loop-o decreases-loop-o
 unfolding first_refusal
-returns c =
+returns-then-starts-o-ge4096 c =
     let a = c.before.before.before in
     let xs = a.before.args.starts.now in
     let n = a.before.args.n in
-    sym (found_refused 15 (first (late xs) (up_from 0 n)) a.loop.o [] (row_first (late xs) n a.loop.o c.before.before.loop-test.true a.loop.invariant.1 (le-leb 4096 (get_or xs a.loop.o 0) c.if1.true)))
+    sym (found_refused 15 (first (late xs) (up_from 0 n)) a.loop-o.o [] (row_first (late xs) n a.loop-o.o c.before.before.loop-o-test.true a.loop-o.invariant.1 (le-leb 4096 (get_or xs a.loop-o.o 0) c.if-starts-o-ge4096.true)))
 
-add-o : tie.Need-overflow-add-o invariant-loop decreases-loop
-add-o c = omega arith
+overflow_add-o : tie.Need-overflow_add-o invariant-loop-o decreases-loop-o
+overflow_add-o c = omega arith
 
-loop-less : tie.Need-loop-smaller invariant-loop decreases-loop
-loop-less c = omega arith
+loop-o-smaller : tie.Need-loop-o-smaller invariant-loop-o decreases-loop-o
+loop-o-smaller c = omega arith
 
-loop-again : tie.Need-loop-preserved invariant-loop decreases-loop
-loop-again c =
+loop-o-preserved : tie.Need-loop-o-preserved invariant-loop-o decreases-loop-o
+loop-o-preserved c =
     let a = c.before.before.before in
     let xs = a.before.args.starts.now in
-    (omega arith, below_next (late xs) a.loop.o a.loop.invariant.1 (lt-leb 4096 (get_or xs a.loop.o 0) c.if1.false))
+    (omega arith, below_next (late xs) a.loop-o.o a.loop-o.invariant.1 (lt-leb 4096 (get_or xs a.loop-o.o 0) c.if-starts-o-ge4096.false))
 
-returns-2 : tie.Need-returns-2 invariant-loop decreases-loop
+returns : tie.Need-returns invariant-loop-o decreases-loop-o
 unfolding first_refusal
-returns-2 c =
+returns c =
     let a = c.before in
     let xs = a.before.args.starts.now in
     let n = a.before.args.n in
-    sym (found_passed 15 (first (late xs) (up_from 0 n)) [] (first_none (late xs) (up_from 0 n) (row_any (late xs) 0 n (λ k p q. a.loop.invariant.1 k (omega (arith, c.loop-test.false))))))
+    sym (found_passed 15 (first (late xs) (up_from 0 n)) [] (first_none (late xs) (up_from 0 n) (row_any (late xs) 0 n (λ k p q. a.loop-o.invariant.1 k (omega (arith, c.loop-o-test.false))))))
 
 pub first_late_spec : {M : Type 1} → statement M
 first_late_spec =
     tie.close
     (tie.spec
-    invariant-loop
-    decreases-loop
-    loop-holds
-    mul-if1
-    shared-slice-read-if1
-    returns
-    add-o
-    loop-less
-    loop-again
-    returns-2)
+    invariant-loop-o
+    decreases-loop-o
+    loop-o-init
+    offset_bounds-starts-o
+    bounds-starts-o
+    returns-then-starts-o-ge4096
+    overflow_add-o
+    loop-o-smaller
+    loop-o-preserved
+    returns)

@@ -18,27 +18,27 @@ use Rattle.verifier.proofs.Pairs.{clash, hit, hit_read, hits_none, walk_found, w
 use Rattle.verifier.proofs.walk.first_pair.Statement.{statement}
 use Rattle.verifier.proofs.walk.first_pair.Tie as tie
 
-abbrev invariant-loop3 : tie.invariant-loop3
-invariant-loop3 file interval starts n found₀ a first count b j d k₀ found k =
+abbrev invariant-loop-k : tie.invariant-loop-k
+invariant-loop-k file interval starts n found₀ a first count b j d k₀ found k =
     (k ≤ d) × (pair_of found ≡ none) × ((c : ℕ) → c < k → hit (loop_of file) interval starts a b j c ≡ false)
 
-abbrev decreases-loop3 : tie.decreases-loop3
-decreases-loop3 file interval starts n found₀ a first count b j d k₀ found k = d - k
+abbrev decreases-loop-k : tie.decreases-loop-k
+decreases-loop-k file interval starts n found₀ a first count b j d k₀ found k = d - k
 
-abbrev invariant-loop2 : tie.invariant-loop2
-invariant-loop2 file interval starts n found₀ a first count b j₀ found j =
+abbrev invariant-loop-j : tie.invariant-loop-j
+invariant-loop-j file interval starts n found₀ a first count b j₀ found j =
     (j ≤ count) × (pair_of found ≡ none)
-    × ((i : ℕ) → i < j → (k : ℕ) → k < (use_at (op_at (loop_of file) a) i).duration → hit (loop_of file) interval starts a b i k ≡ false)
+    × ((i : ℕ) → i < j → (k : ℕ) → k < (use_at (op_at (loop_of file) a) i).duration-d → hit (loop_of file) interval starts a b i k ≡ false)
 
-abbrev decreases-loop2 : tie.decreases-loop2
-decreases-loop2 file interval starts n found₀ a first count b j₀ found j = count - j
+abbrev decreases-loop-j : tie.decreases-loop-j
+decreases-loop-j file interval starts n found₀ a first count b j₀ found j = count - j
 
-abbrev invariant-loop : tie.invariant-loop
-invariant-loop file interval starts n found₀ a first count b₀ found b =
+abbrev invariant-loop-b : tie.invariant-loop-b
+invariant-loop-b file interval starts n found₀ a first count b₀ found b =
     (a ≤ b) × (b ≤ n) × (pair_of found ≡ none) × ((d : ℕ) → d < b → a ≤ d → clash (loop_of file) interval starts (a, d) ≡ false)
 
-abbrev decreases-loop : tie.decreases-loop
-decreases-loop file interval starts n found₀ a first count b₀ found b = n - b
+abbrev decreases-loop-b : tie.decreases-loop-b
+decreases-loop-b file interval starts n found₀ a first count b₀ found b = n - b
 
 abbrev invariant-pairs : tie.invariant-pairs
 invariant-pairs file interval starts n found₀ a₀ found a =
@@ -51,133 +51,133 @@ decreases-pairs file interval starts n found₀ a₀ found a = n - a
 -- ---- what is known where
 
 -- the function's entry, and the loop of the file
-abbrev entry : tie.At-pairs invariant-loop3 decreases-loop3 invariant-loop2 decreases-loop2 invariant-loop decreases-loop invariant-pairs decreases-pairs → tie.Start invariant-loop3 decreases-loop3 invariant-loop2 decreases-loop2 invariant-loop decreases-loop invariant-pairs decreases-pairs
+abbrev entry : tie.At-pairs invariant-loop-k decreases-loop-k invariant-loop-j decreases-loop-j invariant-loop-b decreases-loop-b invariant-pairs decreases-pairs → tie.Start invariant-loop-k decreases-loop-k invariant-loop-j decreases-loop-j invariant-loop-b decreases-loop-b invariant-pairs decreases-pairs
 entry c = c.before.before.before.before
 
-abbrev the-loop : tie.At-pairs invariant-loop3 decreases-loop3 invariant-loop2 decreases-loop2 invariant-loop decreases-loop invariant-pairs decreases-pairs → Loop
+abbrev the-loop : tie.At-pairs invariant-loop-k decreases-loop-k invariant-loop-j decreases-loop-j invariant-loop-b decreases-loop-b invariant-pairs decreases-pairs → Loop
 the-loop c = loop_of (entry c).args.file.now
 
-loop_ok : (c : tie.At-pairs invariant-loop3 decreases-loop3 invariant-loop2 decreases-loop2 invariant-loop decreases-loop invariant-pairs decreases-pairs) → LoopOk (the-loop c)
+loop_ok : (c : tie.At-pairs invariant-loop-k decreases-loop-k invariant-loop-j decreases-loop-j invariant-loop-b decreases-loop-b invariant-pairs decreases-pairs) → LoopOk (the-loop c)
 loop_ok c = accepted_ok (entry c).args.file.now (entry c).requires.0
 
 -- the turn of `pairs` in which the walk over b is, over uses, and over cycles
-abbrev turn : tie.At-loop invariant-loop3 decreases-loop3 invariant-loop2 decreases-loop2 invariant-loop decreases-loop invariant-pairs decreases-pairs → tie.In-pairs invariant-loop3 decreases-loop3 invariant-loop2 decreases-loop2 invariant-loop decreases-loop invariant-pairs decreases-pairs
+abbrev turn : tie.At-loop-b invariant-loop-k decreases-loop-k invariant-loop-j decreases-loop-j invariant-loop-b decreases-loop-b invariant-pairs decreases-pairs → tie.In-pairs invariant-loop-k decreases-loop-k invariant-loop-j decreases-loop-j invariant-loop-b decreases-loop-b invariant-pairs decreases-pairs
 turn c = c.before.before.before
 
-abbrev turn2 : tie.At-loop2 invariant-loop3 decreases-loop3 invariant-loop2 decreases-loop2 invariant-loop decreases-loop invariant-pairs decreases-pairs → tie.In-pairs invariant-loop3 decreases-loop3 invariant-loop2 decreases-loop2 invariant-loop decreases-loop invariant-pairs decreases-pairs
+abbrev turn2 : tie.At-loop-j invariant-loop-k decreases-loop-k invariant-loop-j decreases-loop-j invariant-loop-b decreases-loop-b invariant-pairs decreases-pairs → tie.In-pairs invariant-loop-k decreases-loop-k invariant-loop-j decreases-loop-j invariant-loop-b decreases-loop-b invariant-pairs decreases-pairs
 turn2 c = turn c.before.before
 
-abbrev turn3 : tie.At-loop3 invariant-loop3 decreases-loop3 invariant-loop2 decreases-loop2 invariant-loop decreases-loop invariant-pairs decreases-pairs → tie.In-pairs invariant-loop3 decreases-loop3 invariant-loop2 decreases-loop2 invariant-loop decreases-loop invariant-pairs decreases-pairs
+abbrev turn3 : tie.At-loop-k invariant-loop-k decreases-loop-k invariant-loop-j decreases-loop-j invariant-loop-b decreases-loop-b invariant-pairs decreases-pairs → tie.In-pairs invariant-loop-k decreases-loop-k invariant-loop-j decreases-loop-j invariant-loop-b decreases-loop-b invariant-pairs decreases-pairs
 turn3 c = turn2 c.before.before.before
 
 -- both operations are there
-first_in : (c : tie.In-pairs invariant-loop3 decreases-loop3 invariant-loop2 decreases-loop2 invariant-loop decreases-loop invariant-pairs decreases-pairs) → c.before.pairs.a < size (the-loop c.before)
-first_in c = omega (arith, c.before.before.op_count.ensures)
+first_in : (c : tie.In-pairs invariant-loop-k decreases-loop-k invariant-loop-j decreases-loop-j invariant-loop-b decreases-loop-b invariant-pairs decreases-pairs) → c.before.pairs.a < size (the-loop c.before)
+first_in c = omega (arith, c.before.before.op_count-n.ensures)
 
-second_in : (c : tie.In-loop invariant-loop3 decreases-loop3 invariant-loop2 decreases-loop2 invariant-loop decreases-loop invariant-pairs decreases-pairs) → c.before.loop.b < size (the-loop (turn c.before).before)
-second_in c = omega (arith, (turn c.before).before.before.op_count.ensures)
+second_in : (c : tie.In-loop-b invariant-loop-k decreases-loop-k invariant-loop-j decreases-loop-j invariant-loop-b decreases-loop-b invariant-pairs decreases-pairs) → c.before.loop-b.b < size (the-loop (turn c.before).before)
+second_in c = omega (arith, (turn c.before).before.before.op_count-n.ensures)
 
 -- use j of operation a is there, and is read among all uses
-inside : (c : tie.In-loop2 invariant-loop3 decreases-loop3 invariant-loop2 decreases-loop2 invariant-loop decreases-loop invariant-pairs decreases-pairs) → c.before.loop2.j < length (op_at (the-loop (turn2 c.before).before) (turn2 c.before).before.pairs.a).uses
-inside c = omega (arith, c.before.before.before.before.use_count.ensures)
+inside : (c : tie.In-loop-j invariant-loop-k decreases-loop-k invariant-loop-j decreases-loop-j invariant-loop-b decreases-loop-b invariant-pairs decreases-pairs) → c.before.loop-j.j < length (op_at (the-loop (turn2 c.before).before) (turn2 c.before).before.pairs.a).uses
+inside c = omega (arith, c.before.before.before.before.use_count-count.ensures)
 
-within : (c : tie.In-loop2 invariant-loop3 decreases-loop3 invariant-loop2 decreases-loop2 invariant-loop decreases-loop invariant-pairs decreases-pairs) → c.before.before.before.before.before.first-use.result + c.before.loop2.j < length (all_uses (the-loop (turn2 c.before).before))
+within : (c : tie.In-loop-j invariant-loop-k decreases-loop-k invariant-loop-j decreases-loop-j invariant-loop-b decreases-loop-b invariant-pairs decreases-pairs) → c.before.before.before.before.before.first_use-first.result + c.before.loop-j.j < length (all_uses (the-loop (turn2 c.before).before))
 within c =
     let t = turn2 c.before in
-    omega (arith, c.before.before.before.before.before.first-use.ensures, inside c, use_within (the-loop t.before) t.before.pairs.a (first_in t))
+    omega (arith, c.before.before.before.before.before.first_use-first.ensures, inside c, use_within (the-loop t.before) t.before.pairs.a (first_in t))
 
-is_use : (c : tie.In-loop2 invariant-loop3 decreases-loop3 invariant-loop2 decreases-loop2 invariant-loop decreases-loop invariant-pairs decreases-pairs)
-    → get_or (all_uses (the-loop (turn2 c.before).before)) (c.before.before.before.before.before.first-use.result + c.before.loop2.j) no_use
-    ≡ use_at (op_at (the-loop (turn2 c.before).before) (turn2 c.before).before.pairs.a) c.before.loop2.j
+is_use : (c : tie.In-loop-j invariant-loop-k decreases-loop-k invariant-loop-j decreases-loop-j invariant-loop-b decreases-loop-b invariant-pairs decreases-pairs)
+    → get_or (all_uses (the-loop (turn2 c.before).before)) (c.before.before.before.before.before.first_use-first.result + c.before.loop-j.j) no_use
+    ≡ use_at (op_at (the-loop (turn2 c.before).before) (turn2 c.before).before.pairs.a) c.before.loop-j.j
 is_use c =
     let t = turn2 c.before in
-    let f = c.before.before.before.before.before.first-use in
-    own_use (the-loop t.before) t.before.pairs.a f.result c.before.loop2.j (first_in t) f.ensures (inside c)
+    let f = c.before.before.before.before.before.first_use-first in
+    own_use (the-loop t.before) t.before.pairs.a f.result c.before.loop-j.j (first_in t) f.ensures (inside c)
 
 -- its duration, which is at most 16
-lasts : (c : tie.After-duration invariant-loop3 decreases-loop3 invariant-loop2 decreases-loop2 invariant-loop decreases-loop invariant-pairs decreases-pairs)
-    → c.duration.result ≡ (use_at (op_at (the-loop (turn2 c.before.before).before) (turn2 c.before.before).before.pairs.a) c.before.before.loop2.j).duration
-lasts c = c.duration.ensures ∙ ap (λ (u : Use). u.duration) (is_use c.before)
+lasts : (c : tie.After-duration-d invariant-loop-k decreases-loop-k invariant-loop-j decreases-loop-j invariant-loop-b decreases-loop-b invariant-pairs decreases-pairs)
+    → c.duration-d.result ≡ (use_at (op_at (the-loop (turn2 c.before.before).before) (turn2 c.before.before).before.pairs.a) c.before.before.loop-j.j).duration-d
+lasts c = c.duration-d.ensures ∙ ap (λ (u : Use). u.duration-d) (is_use c.before)
 
-brief : (c : tie.After-duration invariant-loop3 decreases-loop3 invariant-loop2 decreases-loop2 invariant-loop decreases-loop invariant-pairs decreases-pairs) → c.duration.result ≤ 16
+brief : (c : tie.After-duration-d invariant-loop-k decreases-loop-k invariant-loop-j decreases-loop-j invariant-loop-b decreases-loop-b invariant-pairs decreases-pairs) → c.duration-d.result ≤ 16
 brief c =
     let t = turn2 c.before.before in
-    omega (arith, lasts c, (((loop_ok t.before).op_ok t.before.pairs.a (first_in t)).each c.before.before.loop2.j (inside c.before)).ends)
+    omega (arith, lasts c, (((loop_ok t.before).op_ok t.before.pairs.a (first_in t)).each c.before.before.loop-j.j (inside c.before)).ends)
 
 -- whether cycle k of it meets operation b
-abbrev test : tie.At-loop3 invariant-loop3 decreases-loop3 invariant-loop2 decreases-loop2 invariant-loop decreases-loop invariant-pairs decreases-pairs → ℕ → Bool
+abbrev test : tie.At-loop-k invariant-loop-k decreases-loop-k invariant-loop-j decreases-loop-j invariant-loop-b decreases-loop-b invariant-pairs decreases-pairs → ℕ → Bool
 test c =
     let s = entry (turn3 c).before in
-    hit (loop_of s.args.file.now) s.args.interval s.args.starts.now (turn3 c).before.pairs.a c.before.before.before.before.before.loop.b
-    c.before.before.before.loop2.j
+    hit (loop_of s.args.file.now) s.args.interval s.args.starts.now (turn3 c).before.pairs.a c.before.before.before.before.before.loop-b.b
+    c.before.before.before.loop-j.j
 
 -- the call says it
-told : (c : tie.After-meets invariant-loop3 decreases-loop3 invariant-loop2 decreases-loop2 invariant-loop decreases-loop invariant-pairs decreases-pairs) → test c.before.before.before.before c.before.before.before.before.loop3.k ≡ c.meets.result
+told : (c : tie.After-meets invariant-loop-k decreases-loop-k invariant-loop-j decreases-loop-j invariant-loop-b decreases-loop-b invariant-pairs decreases-pairs) → test c.before.before.before.before c.before.before.before.before.loop-k.k ≡ c.meets.result
 told c =
     let h = c.before.before.before.before in
     let p = (turn3 h).before in
     let s = entry p in
-    hit_read (the-loop p) s.args.interval s.args.starts.now p.pairs.a h.before.before.before.before.before.loop.b
-    h.before.before.before.loop2.j h.loop3.k (is_use h.before.before) c.meets.ensures
+    hit_read (the-loop p) s.args.interval s.args.starts.now p.pairs.a h.before.before.before.before.before.loop-b.b
+    h.before.before.before.loop-j.j h.loop-k.k (is_use h.before.before) c.meets.ensures
 
 -- ---- the needs
 
-op-count-requires : tie.Need-op-count-requires invariant-loop3 decreases-loop3 invariant-loop2 decreases-loop2 invariant-loop decreases-loop invariant-pairs decreases-pairs
-op-count-requires c κs = c.before.before.requires.0
+op_count-n-requires : tie.Need-op_count-n-requires invariant-loop-k decreases-loop-k invariant-loop-j decreases-loop-j invariant-loop-b decreases-loop-b invariant-pairs decreases-pairs
+op_count-n-requires c κs = c.before.before.requires.0
 
-pairs-holds : tie.Need-pairs-init invariant-loop3 decreases-loop3 invariant-loop2 decreases-loop2 invariant-loop decreases-loop invariant-pairs decreases-pairs
-pairs-holds c = (omega arith, refl, λ i l. absurd (omega arith))
+pairs-init : tie.Need-pairs-init invariant-loop-k decreases-loop-k invariant-loop-j decreases-loop-j invariant-loop-b decreases-loop-b invariant-pairs decreases-pairs
+pairs-init c = (omega arith, refl, λ i l. absurd (omega arith))
 
-first-use-requires : tie.Need-first-use-requires invariant-loop3 decreases-loop3 invariant-loop2 decreases-loop2 invariant-loop decreases-loop invariant-pairs decreases-pairs
-first-use-requires c κs = ((entry c.before).pre.0, first_in c)
+first_use-first-requires : tie.Need-first_use-first-requires invariant-loop-k decreases-loop-k invariant-loop-j decreases-loop-j invariant-loop-b decreases-loop-b invariant-pairs decreases-pairs
+first_use-first-requires c κs = ((entry c.before).pre.0, first_in c)
 
-use-count-requires : tie.Need-use-count-requires invariant-loop3 decreases-loop3 invariant-loop2 decreases-loop2 invariant-loop decreases-loop invariant-pairs decreases-pairs
-use-count-requires c κs = ((entry c.before.before).pre.0, first_in c.before)
+use_count-count-requires : tie.Need-use_count-count-requires invariant-loop-k decreases-loop-k invariant-loop-j decreases-loop-j invariant-loop-b decreases-loop-b invariant-pairs decreases-pairs
+use_count-count-requires c κs = ((entry c.before.before).pre.0, first_in c.before)
 
-loop-holds : tie.Need-loop-init invariant-loop3 decreases-loop3 invariant-loop2 decreases-loop2 invariant-loop decreases-loop invariant-pairs decreases-pairs
-loop-holds c = (omega arith, omega arith, c.before.before.before.pairs.invariant.1, λ d l m. absurd (omega arith))
+loop-b-init : tie.Need-loop-b-init invariant-loop-k decreases-loop-k invariant-loop-j decreases-loop-j invariant-loop-b decreases-loop-b invariant-pairs decreases-pairs
+loop-b-init c = (omega arith, omega arith, c.before.before.before.pairs.invariant.1, λ d l m. absurd (omega arith))
 
-loop2-holds : tie.Need-loop2-init invariant-loop3 decreases-loop3 invariant-loop2 decreases-loop2 invariant-loop decreases-loop invariant-pairs decreases-pairs
-loop2-holds c = (omega arith, c.before.loop.invariant.2, λ i l. absurd (omega arith))
+loop-j-init : tie.Need-loop-j-init invariant-loop-k decreases-loop-k invariant-loop-j decreases-loop-j invariant-loop-b decreases-loop-b invariant-pairs decreases-pairs
+loop-j-init c = (omega arith, c.before.loop-b.invariant.2, λ i l. absurd (omega arith))
 
-add-duration : tie.Need-overflow-add-duration invariant-loop3 decreases-loop3 invariant-loop2 decreases-loop2 invariant-loop decreases-loop invariant-pairs decreases-pairs
-add-duration c =
+overflow_add-first : tie.Need-overflow_add-first invariant-loop-k decreases-loop-k invariant-loop-j decreases-loop-j invariant-loop-b decreases-loop-b invariant-pairs decreases-pairs
+overflow_add-first c =
     let s = entry (turn2 c.before).before in
     omega (arith, within c, all_few (loop_of s.args.file.now) (accepted_ok s.args.file.now s.pre.0))
 
-duration-requires : tie.Need-duration-requires invariant-loop3 decreases-loop3 invariant-loop2 decreases-loop2 invariant-loop decreases-loop invariant-pairs decreases-pairs
-duration-requires c κs = ((entry (turn2 c.before).before).pre.0, within c)
+duration-d-requires : tie.Need-duration-d-requires invariant-loop-k decreases-loop-k invariant-loop-j decreases-loop-j invariant-loop-b decreases-loop-b invariant-pairs decreases-pairs
+duration-d-requires c κs = ((entry (turn2 c.before).before).pre.0, within c)
 
-loop3-holds : tie.Need-loop3-init invariant-loop3 decreases-loop3 invariant-loop2 decreases-loop2 invariant-loop decreases-loop invariant-pairs decreases-pairs
-loop3-holds c = (omega arith, c.before.before.loop2.invariant.1, λ i l. absurd (omega arith))
+loop-k-init : tie.Need-loop-k-init invariant-loop-k decreases-loop-k invariant-loop-j decreases-loop-j invariant-loop-b decreases-loop-b invariant-pairs decreases-pairs
+loop-k-init c = (omega arith, c.before.before.loop-j.invariant.1, λ i l. absurd (omega arith))
 
-mul-meets : tie.Need-overflow-mul-meets invariant-loop3 decreases-loop3 invariant-loop2 decreases-loop2 invariant-loop decreases-loop invariant-pairs decreases-pairs
-mul-meets c = let t = turn3 c.before in omega (arith, first_in t, (loop_ok t.before).few)
+offset_bounds-starts-a : tie.Need-offset_bounds-starts-a invariant-loop-k decreases-loop-k invariant-loop-j decreases-loop-j invariant-loop-b decreases-loop-b invariant-pairs decreases-pairs
+offset_bounds-starts-a c = let t = turn3 c.before in omega (arith, first_in t, (loop_ok t.before).few)
 
-shared-slice-read-meets : tie.Need-shared-slice-read-meets invariant-loop3 decreases-loop3 invariant-loop2 decreases-loop2 invariant-loop decreases-loop invariant-pairs decreases-pairs
-shared-slice-read-meets c = let t = turn3 c.before.before in omega (arith, first_in t, (entry t.before).pre.1.all)
+bounds-starts-a : tie.Need-bounds-starts-a invariant-loop-k decreases-loop-k invariant-loop-j decreases-loop-j invariant-loop-b decreases-loop-b invariant-pairs decreases-pairs
+bounds-starts-a c = let t = turn3 c.before.before in omega (arith, first_in t, (entry t.before).pre.1.all)
 
-cast-meets : tie.Need-overflow-cast-meets invariant-loop3 decreases-loop3 invariant-loop2 decreases-loop2 invariant-loop decreases-loop invariant-pairs decreases-pairs
-cast-meets c = let t = turn3 c.before.before in omega (arith, (entry t.before).pre.1.early t.before.pairs.a (first_in t))
+overflow_cast-starts : tie.Need-overflow_cast-starts invariant-loop-k decreases-loop-k invariant-loop-j decreases-loop-j invariant-loop-b decreases-loop-b invariant-pairs decreases-pairs
+overflow_cast-starts c = let t = turn3 c.before.before in omega (arith, (entry t.before).pre.1.early t.before.pairs.a (first_in t))
 
-mul-meets-2 : tie.Need-overflow-mul-meets-2 invariant-loop3 decreases-loop3 invariant-loop2 decreases-loop2 invariant-loop decreases-loop invariant-pairs decreases-pairs
-mul-meets-2 c = let h = c.before.before in omega (arith, second_in h.before.before.before.before, (loop_ok (turn3 h).before).few)
+offset_bounds-starts-b : tie.Need-offset_bounds-starts-b invariant-loop-k decreases-loop-k invariant-loop-j decreases-loop-j invariant-loop-b decreases-loop-b invariant-pairs decreases-pairs
+offset_bounds-starts-b c = let h = c.before.before in omega (arith, second_in h.before.before.before.before, (loop_ok (turn3 h).before).few)
 
-shared-slice-read-meets-2 : tie.Need-shared-slice-read-meets-2 invariant-loop3 decreases-loop3 invariant-loop2 decreases-loop2 invariant-loop decreases-loop invariant-pairs decreases-pairs
-shared-slice-read-meets-2 c =
+bounds-starts-b : tie.Need-bounds-starts-b invariant-loop-k decreases-loop-k invariant-loop-j decreases-loop-j invariant-loop-b decreases-loop-b invariant-pairs decreases-pairs
+bounds-starts-b c =
     let h = c.before.before.before in
     omega (arith, second_in h.before.before.before.before, (entry (turn3 h).before).pre.1.all)
 
-cast-meets-2 : tie.Need-overflow-cast-meets-2 invariant-loop3 decreases-loop3 invariant-loop2 decreases-loop2 invariant-loop decreases-loop invariant-pairs decreases-pairs
-cast-meets-2 c =
+overflow_cast-starts-in-loop-k : tie.Need-overflow_cast-starts-in-loop-k invariant-loop-k decreases-loop-k invariant-loop-j decreases-loop-j invariant-loop-b decreases-loop-b invariant-pairs decreases-pairs
+overflow_cast-starts-in-loop-k c =
     let h = c.before.before.before in
     let q = h.before.before.before.before in
-    omega (arith, (entry (turn3 h).before).pre.1.early q.before.loop.b (second_in q))
+    omega (arith, (entry (turn3 h).before).pre.1.early q.before.loop-b.b (second_in q))
 
-add_meets : tie.Need-overflow-add-meets invariant-loop3 decreases-loop3 invariant-loop2 decreases-loop2 invariant-loop decreases-loop invariant-pairs decreases-pairs
-add_meets c = add-duration c.before.before.before.before.before
+overflow_add-first-in-loop-k : tie.Need-overflow_add-first-in-loop-k invariant-loop-k decreases-loop-k invariant-loop-j decreases-loop-j invariant-loop-b decreases-loop-b invariant-pairs decreases-pairs
+overflow_add-first-in-loop-k c = overflow_add-first c.before.before.before.before.before
 
-meets-requires : tie.Need-meets-requires invariant-loop3 decreases-loop3 invariant-loop2 decreases-loop2 invariant-loop decreases-loop invariant-pairs decreases-pairs
+meets-requires : tie.Need-meets-requires invariant-loop-k decreases-loop-k invariant-loop-j decreases-loop-j invariant-loop-b decreases-loop-b invariant-pairs decreases-pairs
 meets-requires c κs =
     let h = c.before.before.before in
     let t = turn3 h in
@@ -188,127 +188,127 @@ meets-requires c κs =
       second_in q,
       within i,
       s.pre.1.early t.before.pairs.a (first_in t),
-      s.pre.1.early q.before.loop.b (second_in q),
+      s.pre.1.early q.before.loop-b.b (second_in q),
       omega (arith, brief h.before),
       s.pre.1.some,
       s.pre.1.short,
     )
 
-add-k : tie.Need-overflow-add-k invariant-loop3 decreases-loop3 invariant-loop2 decreases-loop2 invariant-loop decreases-loop invariant-pairs decreases-pairs
-add-k c = let h = c.before.before.before.before.before in omega (arith, brief h.before)
+overflow_add-k : tie.Need-overflow_add-k invariant-loop-k decreases-loop-k invariant-loop-j decreases-loop-j invariant-loop-b decreases-loop-b invariant-pairs decreases-pairs
+overflow_add-k c = let h = c.before.before.before.before.before in omega (arith, brief h.before)
 
-loop3-less : tie.Need-loop3-smaller invariant-loop3 decreases-loop3 invariant-loop2 decreases-loop2 invariant-loop decreases-loop invariant-pairs decreases-pairs
-loop3-less c = omega arith
+loop-k-smaller : tie.Need-loop-k-smaller invariant-loop-k decreases-loop-k invariant-loop-j decreases-loop-j invariant-loop-b decreases-loop-b invariant-pairs decreases-pairs
+loop-k-smaller c = omega arith
 
-loop3-again : tie.Need-loop3-preserved invariant-loop3 decreases-loop3 invariant-loop2 decreases-loop2 invariant-loop decreases-loop invariant-pairs decreases-pairs
-loop3-again c =
+loop-k-preserved : tie.Need-loop-k-preserved invariant-loop-k decreases-loop-k invariant-loop-j decreases-loop-j invariant-loop-b decreases-loop-b invariant-pairs decreases-pairs
+loop-k-preserved c =
     let h = c.before.before.before.before.before in
-    (omega arith, h.loop3.invariant.1, below_more _ h.loop3.k h.loop3.invariant.2 (told c.before ∙ c.if1.false))
+    (omega arith, h.loop-k.invariant.1, below_more _ h.loop-k.k h.loop-k.invariant.2 (told c.before ∙ c.if-meets.false))
 
-add-j : tie.Need-overflow-add-j invariant-loop3 decreases-loop3 invariant-loop2 decreases-loop2 invariant-loop decreases-loop invariant-pairs decreases-pairs
-add-j c = omega (arith, c.before.before.before.before.before.before.before.use_count.type-inv)
+overflow_add-j : tie.Need-overflow_add-j invariant-loop-k decreases-loop-k invariant-loop-j decreases-loop-j invariant-loop-b decreases-loop-b invariant-pairs decreases-pairs
+overflow_add-j c = omega (arith, c.before.before.before.before.before.before.before.use_count-count.type_inv)
 
-loop2-less : tie.Need-loop2-smaller invariant-loop3 decreases-loop3 invariant-loop2 decreases-loop2 invariant-loop decreases-loop invariant-pairs decreases-pairs
-loop2-less c = omega arith
+loop-j-smaller : tie.Need-loop-j-smaller invariant-loop-k decreases-loop-k invariant-loop-j decreases-loop-j invariant-loop-b decreases-loop-b invariant-pairs decreases-pairs
+loop-j-smaller c = omega arith
 
-loop2-again : tie.Need-loop2-preserved invariant-loop3 decreases-loop3 invariant-loop2 decreases-loop2 invariant-loop decreases-loop invariant-pairs decreases-pairs
-loop2-again c =
+loop-j-preserved : tie.Need-loop-j-preserved invariant-loop-k decreases-loop-k invariant-loop-j decreases-loop-j invariant-loop-b decreases-loop-b invariant-pairs decreases-pairs
+loop-j-preserved c =
     let h = c.before in
     let i = h.before.before.before in
-    (omega arith, h.loop3.invariant.1, below_more _ i.loop2.j i.loop2.invariant.2 (λ k l. h.loop3.invariant.2 k (omega (arith, lasts h.before))))
+    (omega arith, h.loop-k.invariant.1, below_more _ i.loop-j.j i.loop-j.invariant.2 (λ k l. h.loop-k.invariant.2 k (omega (arith, lasts h.before))))
 
-add-b : tie.Need-overflow-add-b invariant-loop3 decreases-loop3 invariant-loop2 decreases-loop2 invariant-loop decreases-loop invariant-pairs decreases-pairs
-add-b c = omega (arith, (turn2 c.before).before.before.op_count.ok)
+overflow_add-b : tie.Need-overflow_add-b invariant-loop-k decreases-loop-k invariant-loop-j decreases-loop-j invariant-loop-b decreases-loop-b invariant-pairs decreases-pairs
+overflow_add-b c = omega (arith, (turn2 c.before).before.before.op_count-n.ok)
 
-loop-less : tie.Need-loop-smaller invariant-loop3 decreases-loop3 invariant-loop2 decreases-loop2 invariant-loop decreases-loop invariant-pairs decreases-pairs
-loop-less c = omega arith
+loop-b-smaller : tie.Need-loop-b-smaller invariant-loop-k decreases-loop-k invariant-loop-j decreases-loop-j invariant-loop-b decreases-loop-b invariant-pairs decreases-pairs
+loop-b-smaller c = omega arith
 
 -- no cycle of any use of a meets b
-loop-again : tie.Need-loop-preserved invariant-loop3 decreases-loop3 invariant-loop2 decreases-loop2 invariant-loop decreases-loop invariant-pairs decreases-pairs
-loop-again c =
+loop-b-preserved : tie.Need-loop-b-preserved invariant-loop-k decreases-loop-k invariant-loop-j decreases-loop-j invariant-loop-b decreases-loop-b invariant-pairs decreases-pairs
+loop-b-preserved c =
     let q = c.before.before in
     let p = (turn q.before).before in
     let s = entry p in (
       omega arith,
       omega arith,
-      c.before.loop2.invariant.1,
-      below_more _ q.before.loop.b q.before.loop.invariant.3 (λ l.
-          hits_none (the-loop p) (loop_ok p) s.args.interval s.args.starts.now s.pre.1 p.pairs.a q.before.loop.b l (second_in q)
-          (λ j m. c.before.loop2.invariant.2 j (omega (arith, q.before.before.use_count.ensures)))),
+      c.before.loop-j.invariant.1,
+      below_more _ q.before.loop-b.b q.before.loop-b.invariant.3 (λ l.
+          hits_none (the-loop p) (loop_ok p) s.args.interval s.args.starts.now s.pre.1 p.pairs.a q.before.loop-b.b l (second_in q)
+          (λ j m. c.before.loop-j.invariant.2 j (omega (arith, q.before.before.use_count-count.ensures)))),
     )
 
-add_a : tie.Need-overflow-add-a invariant-loop3 decreases-loop3 invariant-loop2 decreases-loop2 invariant-loop decreases-loop invariant-pairs decreases-pairs
-add_a c = omega (arith, (turn c.before).before.before.op_count.ok)
+overflow_add-a : tie.Need-overflow_add-a invariant-loop-k decreases-loop-k invariant-loop-j decreases-loop-j invariant-loop-b decreases-loop-b invariant-pairs decreases-pairs
+overflow_add-a c = omega (arith, (turn c.before).before.before.op_count-n.ok)
 
-pairs-less : tie.Need-pairs-smaller invariant-loop3 decreases-loop3 invariant-loop2 decreases-loop2 invariant-loop decreases-loop invariant-pairs decreases-pairs
-pairs-less c = omega arith
+pairs-smaller : tie.Need-pairs-smaller invariant-loop-k decreases-loop-k invariant-loop-j decreases-loop-j invariant-loop-b decreases-loop-b invariant-pairs decreases-pairs
+pairs-smaller c = omega arith
 
-pairs-again : tie.Need-pairs-preserved invariant-loop3 decreases-loop3 invariant-loop2 decreases-loop2 invariant-loop decreases-loop invariant-pairs decreases-pairs
-pairs-again c =
+pairs-preserved : tie.Need-pairs-preserved invariant-loop-k decreases-loop-k invariant-loop-j decreases-loop-j invariant-loop-b decreases-loop-b invariant-pairs decreases-pairs
+pairs-preserved c =
     let p = (turn c.before).before in (
       omega arith,
-      c.before.loop.invariant.2,
+      c.before.loop-b.invariant.2,
       below_more _ p.pairs.a p.pairs.inv.2
-          (λ d l m. c.before.loop.invariant.3 d (omega (arith, p.before.op_count.ensures)) l),
+          (λ d l m. c.before.loop-b.invariant.3 d (omega (arith, p.before.op_count-n.ensures)) l),
     )
 
-returns : tie.Need-returns invariant-loop3 decreases-loop3 invariant-loop2 decreases-loop2 invariant-loop decreases-loop invariant-pairs decreases-pairs
-returns c =
+returns-after-pairs : tie.Need-returns-after-pairs invariant-loop-k decreases-loop-k invariant-loop-j decreases-loop-j invariant-loop-b decreases-loop-b invariant-pairs decreases-pairs
+returns-after-pairs c =
     let p = c.before in
     let s = entry p in
     p.pairs.invariant.1
-    ∙ sym (walk_none (the-loop p) (loop_ok p) s.args.interval s.args.starts.now s.pre.1 (λ i l. p.pairs.invariant.2 i (omega (arith, p.before.op_count.ensures))))
+    ∙ sym (walk_none (the-loop p) (loop_ok p) s.args.interval s.args.starts.now s.pre.1 (λ i l. p.pairs.invariant.2 i (omega (arith, p.before.op_count-n.ensures))))
 
-returns-2 : tie.Need-returns-2 invariant-loop3 decreases-loop3 invariant-loop2 decreases-loop2 invariant-loop decreases-loop invariant-pairs decreases-pairs
-returns-2 c =
+returns-then-meets : tie.Need-returns-then-meets invariant-loop-k decreases-loop-k invariant-loop-j decreases-loop-j invariant-loop-b decreases-loop-b invariant-pairs decreases-pairs
+returns-then-meets c =
     let h = c.before.before.before.before.before in
     let p = (turn3 h).before in
     let s = entry p in
     let q = h.before.before.before.before in
     let i = h.before.before in
-    sym (walk_found (the-loop p) (loop_ok p) s.args.interval s.args.starts.now s.pre.1 p.pairs.a q.before.loop.b i.before.loop2.j h.loop3.k
-    q.before.loop.invariant.0 (second_in q) (inside i) (omega (arith, lasts h.before)) (told c.before ∙ c.if1.true) p.pairs.inv.2 q.before.loop.invariant.3)
+    sym (walk_found (the-loop p) (loop_ok p) s.args.interval s.args.starts.now s.pre.1 p.pairs.a q.before.loop-b.b i.before.loop-j.j h.loop-k.k
+    q.before.loop-b.invariant.0 (second_in q) (inside i) (omega (arith, lasts h.before)) (told c.before ∙ c.if-meets.true) p.pairs.inv.2 q.before.loop-b.invariant.3)
 
 pub first_pair_spec : {M : Type 1} → statement M
 first_pair_spec =
     tie.close
     (tie.spec
-    invariant-loop3
-    decreases-loop3
-    invariant-loop2
-    decreases-loop2
-    invariant-loop
-    decreases-loop
+    invariant-loop-k
+    decreases-loop-k
+    invariant-loop-j
+    decreases-loop-j
+    invariant-loop-b
+    decreases-loop-b
     invariant-pairs
     decreases-pairs
-    op-count-requires
-    pairs-holds
-    first-use-requires
-    use-count-requires
-    loop-holds
-    loop2-holds
-    add-duration
-    duration-requires
-    loop3-holds
-    mul-meets
-    shared-slice-read-meets
-    cast-meets
-    mul-meets-2
-    shared-slice-read-meets-2
-    cast-meets-2
-    add_meets
+    op_count-n-requires
+    pairs-init
+    first_use-first-requires
+    use_count-count-requires
+    loop-b-init
+    loop-j-init
+    overflow_add-first
+    duration-d-requires
+    loop-k-init
+    offset_bounds-starts-a
+    bounds-starts-a
+    overflow_cast-starts
+    offset_bounds-starts-b
+    bounds-starts-b
+    overflow_cast-starts-in-loop-k
+    overflow_add-first-in-loop-k
     meets-requires
-    add-k
-    loop3-less
-    loop3-again
-    add-j
-    loop2-less
-    loop2-again
-    add-b
-    loop-less
-    loop-again
-    add_a
-    pairs-less
-    pairs-again
-    returns
-    returns-2)
+    overflow_add-k
+    loop-k-smaller
+    loop-k-preserved
+    overflow_add-j
+    loop-j-smaller
+    loop-j-preserved
+    overflow_add-b
+    loop-b-smaller
+    loop-b-preserved
+    overflow_add-a
+    pairs-smaller
+    pairs-preserved
+    returns-after-pairs
+    returns-then-meets)

@@ -3,43 +3,43 @@ use Rattle.std.proofs.Common.{◌-◌, arith}
 use Rattle.verifier_cases.proofs.random.both.Statement.{statement}
 use Rattle.verifier_cases.proofs.random.both.Tie as tie
 
-abbrev invariant-loop : tie.invariant-loop
-invariant-loop p q found₀ i₀ found i = Unit
+abbrev invariant-loop-i : tie.invariant-loop-i
+invariant-loop-i p q found₀ i₀ found i = Unit
 
-abbrev decreases-loop : tie.decreases-loop
-decreases-loop p q found₀ i₀ found i = 24 - i
+abbrev decreases-loop-i : tie.decreases-loop-i
+decreases-loop-i p q found₀ i₀ found i = 24 - i
 
-loop-holds : tie.Need-loop-init invariant-loop decreases-loop
-loop-holds c = tt
+loop-i-init : tie.Need-loop-i-init invariant-loop-i decreases-loop-i
+loop-i-init c = tt
 
-element-copy-out-found : tie.Need-element-copy-out-found invariant-loop decreases-loop
-element-copy-out-found c = omega arith
+bounds-p-i : tie.Need-bounds-p-i invariant-loop-i decreases-loop-i
+bounds-p-i c = omega arith
 
-element-copy-out-found-2 : tie.Need-element-copy-out-found-2 invariant-loop decreases-loop
-element-copy-out-found-2 c = omega arith
+bounds-q-i : tie.Need-bounds-q-i invariant-loop-i decreases-loop-i
+bounds-q-i c = omega arith
 
-add-i : tie.Need-overflow-add-i invariant-loop decreases-loop
-add-i c = omega arith
+overflow_add-i : tie.Need-overflow_add-i invariant-loop-i decreases-loop-i
+overflow_add-i c = omega arith
 
-loop-less : tie.Need-loop-smaller invariant-loop decreases-loop
-loop-less c = omega arith
+loop-i-smaller : tie.Need-loop-i-smaller invariant-loop-i decreases-loop-i
+loop-i-smaller c = omega arith
 
-loop-again : tie.Need-loop-preserved invariant-loop decreases-loop
-loop-again c = tt
+loop-i-preserved : tie.Need-loop-i-preserved invariant-loop-i decreases-loop-i
+loop-i-preserved c = tt
 
-returns : tie.Need-returns invariant-loop decreases-loop
+returns : tie.Need-returns invariant-loop-i decreases-loop-i
 returns c = tt
 
 pub both_spec : {M : Type 1} → statement M
 both_spec =
     tie.close
     (tie.spec
-    invariant-loop
-    decreases-loop
-    loop-holds
-    element-copy-out-found
-    element-copy-out-found-2
-    add-i
-    loop-less
-    loop-again
+    invariant-loop-i
+    decreases-loop-i
+    loop-i-init
+    bounds-p-i
+    bounds-q-i
+    overflow_add-i
+    loop-i-smaller
+    loop-i-preserved
     returns)

@@ -3,43 +3,43 @@ use Rattle.std.proofs.Common.{◌-◌, arith}
 use Rattle.verifier_cases.proofs.random.lists.Statement.{statement}
 use Rattle.verifier_cases.proofs.random.lists.Tie as tie
 
-abbrev invariant-loop : tie.invariant-loop
-invariant-loop t₀ i₀ t i = Unit
+abbrev invariant-loop-i : tie.invariant-loop-i
+invariant-loop-i t₀ i₀ t i = Unit
 
-abbrev decreases-loop : tie.decreases-loop
-decreases-loop t₀ i₀ t i = 400 - i
+abbrev decreases-loop-i : tie.decreases-loop-i
+decreases-loop-i t₀ i₀ t i = 400 - i
 
-loop-holds : tie.Need-loop-init invariant-loop decreases-loop
-loop-holds c = tt
+loop-i-init : tie.Need-loop-i-init invariant-loop-i decreases-loop-i
+loop-i-init c = tt
 
-with-list-requires : tie.Need-with-list-requires invariant-loop decreases-loop
-with-list-requires c κs = tt
+with_list-t-requires : tie.Need-with_list-t-requires invariant-loop-i decreases-loop-i
+with_list-t-requires c κs = tt
 
-add-i : tie.Need-overflow-add-i invariant-loop decreases-loop
-add-i c = omega arith
+overflow_add-i : tie.Need-overflow_add-i invariant-loop-i decreases-loop-i
+overflow_add-i c = omega arith
 
-loop-less : tie.Need-loop-smaller invariant-loop decreases-loop
-loop-less c = omega arith
+loop-i-smaller : tie.Need-loop-i-smaller invariant-loop-i decreases-loop-i
+loop-i-smaller c = omega arith
 
-loop-again : tie.Need-loop-preserved invariant-loop decreases-loop
-loop-again c = tt
+loop-i-preserved : tie.Need-loop-i-preserved invariant-loop-i decreases-loop-i
+loop-i-preserved c = tt
 
-print-requires : tie.Need-print-requires invariant-loop decreases-loop
+print-requires : tie.Need-print-requires invariant-loop-i decreases-loop-i
 print-requires c κs = tt
 
-returns : tie.Need-returns invariant-loop decreases-loop
+returns : tie.Need-returns invariant-loop-i decreases-loop-i
 returns c = tt
 
 pub lists_spec : {M : Type 1} → statement M
 lists_spec =
     tie.close
     (tie.spec
-    invariant-loop
-    decreases-loop
-    loop-holds
-    with-list-requires
-    add-i
-    loop-less
-    loop-again
+    invariant-loop-i
+    decreases-loop-i
+    loop-i-init
+    with_list-t-requires
+    overflow_add-i
+    loop-i-smaller
+    loop-i-preserved
     print-requires
     returns)

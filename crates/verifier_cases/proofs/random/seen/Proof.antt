@@ -3,47 +3,47 @@ use Rattle.std.proofs.Common.{◌-◌, arith}
 use Rattle.verifier_cases.proofs.random.seen.Statement.{statement}
 use Rattle.verifier_cases.proofs.random.seen.Tie as tie
 
-abbrev invariant-loop : tie.invariant-loop
-invariant-loop d starts e₀ e = Unit
+abbrev invariant-loop-e : tie.invariant-loop-e
+invariant-loop-e d starts e₀ e = Unit
 
-abbrev decreases-loop : tie.decreases-loop
-decreases-loop d starts e₀ e = d.m - e
+abbrev decreases-loop-e : tie.decreases-loop-e
+decreases-loop-e d starts e₀ e = d.m - e
 
-loop-holds : tie.Need-loop-init invariant-loop decreases-loop
-loop-holds c = tt
+loop-e-init : tie.Need-loop-e-init invariant-loop-e decreases-loop-e
+loop-e-init c = tt
 
-holds-requires : tie.Need-holds-requires invariant-loop decreases-loop
+holds-requires : tie.Need-holds-requires invariant-loop-e decreases-loop-e
 holds-requires c κs = tt
 
-returns : tie.Need-returns invariant-loop decreases-loop
+returns-then-not-holds : tie.Need-returns-then-not-holds invariant-loop-e decreases-loop-e
+returns-then-not-holds c = tt
+
+overflow_add-e : tie.Need-overflow_add-e invariant-loop-e decreases-loop-e
+overflow_add-e c = omega arith
+
+loop-e-smaller : tie.Need-loop-e-smaller invariant-loop-e decreases-loop-e
+loop-e-smaller c = omega arith
+
+loop-e-preserved : tie.Need-loop-e-preserved invariant-loop-e decreases-loop-e
+loop-e-preserved c = tt
+
+first_pair-requires : tie.Need-first_pair-requires invariant-loop-e decreases-loop-e
+first_pair-requires c κs = tt
+
+returns : tie.Need-returns invariant-loop-e decreases-loop-e
 returns c = tt
-
-add-e : tie.Need-overflow-add-e invariant-loop decreases-loop
-add-e c = omega arith
-
-loop-less : tie.Need-loop-smaller invariant-loop decreases-loop
-loop-less c = omega arith
-
-loop-again : tie.Need-loop-preserved invariant-loop decreases-loop
-loop-again c = tt
-
-first-pair-requires : tie.Need-first-pair-requires invariant-loop decreases-loop
-first-pair-requires c κs = tt
-
-returns-2 : tie.Need-returns-2 invariant-loop decreases-loop
-returns-2 c = tt
 
 pub seen_spec : {M : Type 1} → statement M
 seen_spec =
     tie.close
     (tie.spec
-    invariant-loop
-    decreases-loop
-    loop-holds
+    invariant-loop-e
+    decreases-loop-e
+    loop-e-init
     holds-requires
-    returns
-    add-e
-    loop-less
-    loop-again
-    first-pair-requires
-    returns-2)
+    returns-then-not-holds
+    overflow_add-e
+    loop-e-smaller
+    loop-e-preserved
+    first_pair-requires
+    returns)

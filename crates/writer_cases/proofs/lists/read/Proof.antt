@@ -3,71 +3,71 @@ use Rattle.std.proofs.Common.{◌-◌, length, arith}
 use Rattle.writer_cases.proofs.lists.read.Statement.{statement}
 use Rattle.writer_cases.proofs.lists.read.Tie as tie
 
-abbrev invariant-loop : tie.invariant-loop
-invariant-loop line at list₀ count₀ from₀ next₀ list count from next = Unit
+abbrev invariant-loop-next : tie.invariant-loop-next
+invariant-loop-next line at list₀ count₀ from₀ next₀ list count from next = Unit
 
-abbrev decreases-loop : tie.decreases-loop
-decreases-loop line at list₀ count₀ from₀ next₀ list count from next = length line - next
+abbrev decreases-loop-next : tie.decreases-loop-next
+decreases-loop-next line at list₀ count₀ from₀ next₀ list count from next = length line - next
 
-loop-holds : tie.Need-loop-init invariant-loop decreases-loop
-loop-holds c = tt
+loop-next-init : tie.Need-loop-next-init invariant-loop-next decreases-loop-next
+loop-next-init c = tt
 
-find-requires : tie.Need-find-requires invariant-loop decreases-loop
-find-requires c κs = omega arith
+find-end-requires : tie.Need-find-end-requires invariant-loop-next decreases-loop-next
+find-end-requires c κs = omega arith
 
-shared-slice-read-b : tie.Need-shared-slice-read-b invariant-loop decreases-loop
-shared-slice-read-b c = omega arith
+bounds-line-next : tie.Need-bounds-line-next invariant-loop-next decreases-loop-next
+bounds-line-next c = omega arith
 
-add-t14 : tie.Need-overflow-add-t14 invariant-loop decreases-loop
-add-t14 c = omega arith
+overflow_add-result : tie.Need-overflow_add-result invariant-loop-next decreases-loop-next
+overflow_add-result c = omega arith
 
-returns : tie.Need-returns invariant-loop decreases-loop
+returns-then-b-eq47 : tie.Need-returns-then-b-eq47 invariant-loop-next decreases-loop-next
+returns-then-b-eq47 c = tt
+
+overflow_add-next : tie.Need-overflow_add-next invariant-loop-next decreases-loop-next
+overflow_add-next c = omega arith
+
+number_at-times-requires : tie.Need-number_at-times-requires invariant-loop-next decreases-loop-next
+number_at-times-requires c κs = tt
+
+repeat-count-requires : tie.Need-repeat-count-requires invariant-loop-next decreases-loop-next
+repeat-count-requires c κs = tt
+
+signed_at-requires : tie.Need-signed_at-requires invariant-loop-next decreases-loop-next
+signed_at-requires c κs = tt
+
+more-count-requires : tie.Need-more-count-requires invariant-loop-next decreases-loop-next
+more-count-requires c κs = tt
+
+overflow_add-next-in-loop-next : tie.Need-overflow_add-next-in-loop-next invariant-loop-next decreases-loop-next
+overflow_add-next-in-loop-next c = omega arith
+
+loop-next-smaller : tie.Need-loop-next-smaller invariant-loop-next decreases-loop-next
+loop-next-smaller c = omega arith
+
+loop-next-preserved : tie.Need-loop-next-preserved invariant-loop-next decreases-loop-next
+loop-next-preserved c = tt
+
+returns : tie.Need-returns invariant-loop-next decreases-loop-next
 returns c = tt
-
-add-number-at : tie.Need-overflow-add-number-at invariant-loop decreases-loop
-add-number-at c = omega arith
-
-number-at-requires : tie.Need-number-at-requires invariant-loop decreases-loop
-number-at-requires c κs = tt
-
-repeat-requires : tie.Need-repeat-requires invariant-loop decreases-loop
-repeat-requires c κs = tt
-
-signed-at-requires : tie.Need-signed-at-requires invariant-loop decreases-loop
-signed-at-requires c κs = tt
-
-more-requires : tie.Need-more-requires invariant-loop decreases-loop
-more-requires c κs = tt
-
-add-next : tie.Need-overflow-add-next invariant-loop decreases-loop
-add-next c = omega arith
-
-loop-less : tie.Need-loop-smaller invariant-loop decreases-loop
-loop-less c = omega arith
-
-loop-again : tie.Need-loop-preserved invariant-loop decreases-loop
-loop-again c = tt
-
-returns-2 : tie.Need-returns-2 invariant-loop decreases-loop
-returns-2 c = tt
 
 pub read_spec : {M : Type 1} → statement M
 read_spec =
     tie.close
     (tie.spec
-    invariant-loop
-    decreases-loop
-    loop-holds
-    find-requires
-    shared-slice-read-b
-    add-t14
-    returns
-    add-number-at
-    number-at-requires
-    repeat-requires
-    signed-at-requires
-    more-requires
-    add-next
-    loop-less
-    loop-again
-    returns-2)
+    invariant-loop-next
+    decreases-loop-next
+    loop-next-init
+    find-end-requires
+    bounds-line-next
+    overflow_add-result
+    returns-then-b-eq47
+    overflow_add-next
+    number_at-times-requires
+    repeat-count-requires
+    signed_at-requires
+    more-count-requires
+    overflow_add-next-in-loop-next
+    loop-next-smaller
+    loop-next-preserved
+    returns)

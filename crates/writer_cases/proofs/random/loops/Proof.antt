@@ -3,47 +3,43 @@ use Rattle.std.proofs.Common.{◌-◌, arith}
 use Rattle.writer_cases.proofs.random.loops.Statement.{statement}
 use Rattle.writer_cases.proofs.random.loops.Tie as tie
 
-abbrev invariant-loop : tie.invariant-loop
-invariant-loop t₀ i₀ t3 t i = Unit
+abbrev invariant-loop-i : tie.invariant-loop-i
+invariant-loop-i t₀ i₀ t3 t i = Unit
 
-abbrev decreases-loop : tie.decreases-loop
-decreases-loop t₀ i₀ t3 t i = 400 - i
+abbrev decreases-loop-i : tie.decreases-loop-i
+decreases-loop-i t₀ i₀ t3 t i = 400 - i
 
-loop-holds : tie.Need-loop-init invariant-loop decreases-loop
-loop-holds c = tt
+loop-i-init : tie.Need-loop-i-init invariant-loop-i decreases-loop-i
+loop-i-init c = tt
 
-with-loop-requires : tie.Need-with-loop-requires invariant-loop decreases-loop
-with-loop-requires c κs = tt
+with_loop-t-requires : tie.Need-with_loop-t-requires invariant-loop-i decreases-loop-i
+with_loop-t-requires c κs = tt
 
-add-i : tie.Need-overflow-add-i invariant-loop decreases-loop
-add-i c = omega arith
+overflow_add-i : tie.Need-overflow_add-i invariant-loop-i decreases-loop-i
+overflow_add-i c = omega arith
 
-loop-less : tie.Need-loop-smaller invariant-loop decreases-loop
-loop-less c = omega arith
+loop-i-smaller : tie.Need-loop-i-smaller invariant-loop-i decreases-loop-i
+loop-i-smaller c = omega arith
 
-loop-again : tie.Need-loop-preserved invariant-loop decreases-loop
-loop-again c = tt
+loop-i-preserved : tie.Need-loop-i-preserved invariant-loop-i decreases-loop-i
+loop-i-preserved c = tt
 
-slice-aggregate-form : tie.Need-slice-aggregate-form invariant-loop decreases-loop
-slice-aggregate-form c = omega arith
-
-form-requires : tie.Need-form-requires invariant-loop decreases-loop
+form-requires : tie.Need-form-requires invariant-loop-i decreases-loop-i
 form-requires c κs = tt
 
-returns : tie.Need-returns invariant-loop decreases-loop
+returns : tie.Need-returns invariant-loop-i decreases-loop-i
 returns c = tt
 
 pub loops_spec : {M : Type 1} → statement M
 loops_spec =
     tie.close
     (tie.spec
-    invariant-loop
-    decreases-loop
-    loop-holds
-    with-loop-requires
-    add-i
-    loop-less
-    loop-again
-    slice-aggregate-form
+    invariant-loop-i
+    decreases-loop-i
+    loop-i-init
+    with_loop-t-requires
+    overflow_add-i
+    loop-i-smaller
+    loop-i-preserved
     form-requires
     returns)

@@ -3,55 +3,55 @@ use Rattle.std.proofs.Common.{◌-◌, arith}
 use Rattle.writer_cases.proofs.random.numbers.Statement.{statement}
 use Rattle.writer_cases.proofs.random.numbers.Tie as tie
 
-abbrev invariant-loop : tie.invariant-loop
-invariant-loop body list₀ end i₀ list i = Unit
+abbrev invariant-loop-i : tie.invariant-loop-i
+invariant-loop-i body list₀ end i₀ list i = Unit
 
-abbrev decreases-loop : tie.decreases-loop
-decreases-loop body list₀ end i₀ list i = end - i
+abbrev decreases-loop-i : tie.decreases-loop-i
+decreases-loop-i body list₀ end i₀ list i = end - i
 
-least-requires : tie.Need-least-requires invariant-loop decreases-loop
-least-requires c κs = tt
+least-end-requires : tie.Need-least-end-requires invariant-loop-i decreases-loop-i
+least-end-requires c κs = tt
 
-loop-holds : tie.Need-loop-init invariant-loop decreases-loop
-loop-holds c = tt
+loop-i-init : tie.Need-loop-i-init invariant-loop-i decreases-loop-i
+loop-i-init c = tt
 
-shared-slice-read-signed : tie.Need-shared-slice-read-signed invariant-loop decreases-loop
-shared-slice-read-signed c = omega arith
+bounds-body-i : tie.Need-bounds-body-i invariant-loop-i decreases-loop-i
+bounds-body-i c = omega arith
 
-signed-requires : tie.Need-signed-requires invariant-loop decreases-loop
+signed-requires : tie.Need-signed-requires invariant-loop-i decreases-loop-i
 signed-requires c κs = tt
 
-mul-t10 : tie.Need-overflow-mul-t10 invariant-loop decreases-loop
-mul-t10 c = omega arith
+offset_bounds-list-i : tie.Need-offset_bounds-list-i invariant-loop-i decreases-loop-i
+offset_bounds-list-i c = omega arith
 
-element-set-from-list : tie.Need-element-set-from-list invariant-loop decreases-loop
-element-set-from-list c = omega arith
+bounds-list-i : tie.Need-bounds-list-i invariant-loop-i decreases-loop-i
+bounds-list-i c = omega arith
 
-add-i : tie.Need-overflow-add-i invariant-loop decreases-loop
-add-i c = omega arith
+overflow_add-i : tie.Need-overflow_add-i invariant-loop-i decreases-loop-i
+overflow_add-i c = omega arith
 
-loop-less : tie.Need-loop-smaller invariant-loop decreases-loop
-loop-less c = omega arith
+loop-i-smaller : tie.Need-loop-i-smaller invariant-loop-i decreases-loop-i
+loop-i-smaller c = omega arith
 
-loop-again : tie.Need-loop-preserved invariant-loop decreases-loop
-loop-again c = tt
+loop-i-preserved : tie.Need-loop-i-preserved invariant-loop-i decreases-loop-i
+loop-i-preserved c = tt
 
-returns : tie.Need-returns invariant-loop decreases-loop
+returns : tie.Need-returns invariant-loop-i decreases-loop-i
 returns c = tt
 
 pub numbers_spec : {M : Type 1} → statement M
 numbers_spec =
     tie.close
     (tie.spec
-    invariant-loop
-    decreases-loop
-    least-requires
-    loop-holds
-    shared-slice-read-signed
+    invariant-loop-i
+    decreases-loop-i
+    least-end-requires
+    loop-i-init
+    bounds-body-i
     signed-requires
-    mul-t10
-    element-set-from-list
-    add-i
-    loop-less
-    loop-again
+    offset_bounds-list-i
+    bounds-list-i
+    overflow_add-i
+    loop-i-smaller
+    loop-i-preserved
     returns)
