@@ -30,7 +30,7 @@ overflow_cast-start : tie.Need-overflow_cast-start
 overflow_cast-start c = omega (arith, near c.before.before.before)
 
 first_use-requires : tie.Need-first_use-requires
-first_use-requires c κs = let p = c.before.before.before.requires in (p.0.accepted, p.1)
+first_use-requires c κs = let p = c.requires in (p.0.accepted, p.1)
 
 release-requires : tie.Need-release-requires
 release-requires c κs =
@@ -53,7 +53,7 @@ returns c =
     let s = c.before.before.before.before.before.before.before.before in
     let a = s.args in
     let p = s.requires in
-    rw c.before.before.release.ensures
+    rw c.release.ensures
     (lift_is a.op (get_or a.starts.now a.op 0) p.0 p.1 (near s) (there s))
 
 pub lift_spec : {M : Type 1} → statement M

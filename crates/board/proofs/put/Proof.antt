@@ -20,7 +20,7 @@ free : (s : tie.Start) → seats s.args.starts.now s.args.op ≡ none
 free s = seat_none (get_or s.args.starts.now s.args.op 65535) s.requires.blank
 
 first_use-requires : tie.Need-first_use-requires
-first_use-requires c κs = let p = c.before.before.requires in (p.board.accepted, p.inside)
+first_use-requires c κs = let p = c.requires in (p.board.accepted, p.inside)
 
 reserve-requires : tie.Need-reserve-requires
 reserve-requires c κs =
@@ -46,7 +46,7 @@ returns c =
     let s = c.before.before.before.before.before.before.before in
     let a = s.args in
     let p = s.requires in
-    rw c.before.before.reserve.ensures
+    rw c.reserve.ensures
     (put_is a.op a.start p.board p.inside p.near (free s) p.fits)
 
 pub put_spec : {M : Type 1} → statement M

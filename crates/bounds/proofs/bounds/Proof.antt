@@ -26,17 +26,17 @@ passed_on-requires c κs = search rules
 
 returns-in_default : tie.Need-returns-in_default
 returns-in_default c =
-    let e = c.before.enum_told-in_default-1.given.1 in
-    let r = c.before.before.before in
-    by_file _ (read_refused r.before.before.args.file.now _ _ (sym (ap reading_of e) ∙ r.read-reading.ensures)) (ap bounds_of (c.passed_on.ensures ∙ ap as_bounds e))
+    let e = c.in_default.is in
+    let r = c.before.before in
+    by_file _ (read_refused r.args.file.now _ _ (sym (ap reading_of e) ∙ r.read-reading.ensures)) (ap bounds_of (c.passed_on.ensures ∙ ap as_bounds e))
 
 -- ---- once the file is accepted
 
 abbrev file : tie.In-Accepted → List ℕ
-file c = c.before.before.before.before.args.file.now
+file c = c.args.file.now
 
 accepted : (c : tie.In-Accepted) → Accepted (file c)
-accepted c = (read_accepted (file c) _ _ _ (sym (ap reading_of c.enum_told-1.given.1) ∙ c.before.before.read-reading.ensures)).file
+accepted c = (read_accepted (file c) _ _ _ (sym (ap reading_of c.in-Accepted.is) ∙ c.read-reading.ensures)).file
 
 lower-requires : tie.Need-lower-requires
 lower-requires c κs = accepted c

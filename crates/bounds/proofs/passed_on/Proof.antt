@@ -15,7 +15,7 @@ returns-in-Accepted : tie.Need-returns-in-Accepted
 returns-in-Accepted c = search rules
 
 returns-in-Refused : tie.Need-returns-in-Refused
-returns-in-Refused c = sym (ap as_bounds c.before.r-1.given.1)
+returns-in-Refused c = sym (ap as_bounds c.in-Refused.is)
 
 pub passed_on_spec : {M : Type 1} → statement M
 passed_on_spec = tie.close (tie.spec enum_told-1 enum_known-r returns-in-Accepted returns-in-Refused)

@@ -16,13 +16,13 @@ overflow_add-result c = search rules
 
 returns-then-i-count : tie.Need-returns-then-i-count
 returns-then-i-count c =
-    let a = c.before.before.before.args in
+    let a = c.args in
     let h : a.i < length (files a.bundle.now) = omega arith in
     rw (lt-ltb _ _ h)
 
 returns-else-i-count : tie.Need-returns-else-i-count
 returns-else-i-count c =
-    let a = c.before.before.before.args in
+    let a = c.args in
     let h : length (files a.bundle.now) ≤ a.i = omega arith in
     rw (le-ltb _ _ h)
 

@@ -21,14 +21,14 @@ enum_told-1 c = search rules
 
 returns-in-Files : tie.Need-returns-in-Files
 returns-in-Files c =
-    let b = c.before.before.before.before.before.args.bundle.now in
-    let e : c.before.n-1.given.0.0 ≡ length (files b) = ap (λ (x : Bundled). size_of (bundled_of x)) (sym c.before.n-1.given.1) ∙ ap size_of c.before.before.before.read.ensures ∙ size_files b in
+    let b = c.args.bundle.now in
+    let e : c.in-Files.n ≡ length (files b) = ap (λ (x : Bundled). size_of (bundled_of x)) (sym c.in-Files.is) ∙ ap size_of c.read.ensures ∙ size_files b in
     (e, omega (arith, few_files b))
 
 returns-in-Refused : tie.Need-returns-in-Refused
 returns-in-Refused c =
-    let b = c.before.before.before.before.args.bundle.now in
-    (ap (λ (x : Bundled). size_of (bundled_of x)) (sym c.enum_told-1.given.1) ∙ ap size_of c.before.before.read.ensures ∙ size_files b, omega arith)
+    let b = c.args.bundle.now in
+    (ap (λ (x : Bundled). size_of (bundled_of x)) (sym c.in-Refused.is) ∙ ap size_of c.read.ensures ∙ size_files b, omega arith)
 
 pub count_spec : {M : Type 1} → statement M
 count_spec = tie.close (tie.spec read-requires enum_known-n enum_told-1 returns-in-Files returns-in-Refused)

@@ -12,15 +12,15 @@ count-n-requires c κs = search rules
 slice_bounds-result-count : tie.Need-slice_bounds-result-count
 slice_bounds-result-count c = search rules
 
-slice_bounds-result-start : tie.Need-slice_bounds-result-start
+slice_bounds-result-start : tie.Need-slice-bounds-result-start
 slice_bounds-result-start c = search rules
 
-slice_bounds-result-end : tie.Need-slice_bounds-result-end
+slice_bounds-result-end : tie.Need-slice-bounds-result-end
 slice_bounds-result-end c = search rules
 
 returns-then-n-i : tie.Need-returns-then-n-i
 returns-then-n-i c =
-    let a = c.before.before.before.before.args in
+    let a = c.args in
     sym (no_part a.bundle.now a.i (omega arith))
 
 overflow_mul-at : tie.Need-overflow_mul-at
@@ -31,7 +31,7 @@ overflow_add-at c = search rules
 
 word-begin-requires : tie.Need-word-begin-requires
 word-begin-requires c κs =
-    let a = c.before.before.before.args in
+    let a = c.args in
     omega (arith, entry_at a.bundle.now a.i (omega arith))
 
 overflow_add-at-2 : tie.Need-overflow_add-at-2
@@ -39,7 +39,7 @@ overflow_add-at-2 c = search rules
 
 word-requires : tie.Need-word-requires
 word-requires c κs =
-    let a = c.before.before.before.before.args in
+    let a = c.args in
     omega (arith, entry_at a.bundle.now a.i (omega arith))
 
 overflow_add-end : tie.Need-overflow_add-end
@@ -48,18 +48,18 @@ overflow_add-end c = search rules
 slice_bounds-result-count-2 : tie.Need-slice_bounds-result-count-2
 slice_bounds-result-count-2 c = search rules
 
-slice_bounds-result-start-2 : tie.Need-slice_bounds-result-start-2
+slice_bounds-result-start-2 : tie.Need-slice-bounds-result-start-2
 slice_bounds-result-start-2 c = search rules
 
-slice_bounds-result-end-2 : tie.Need-slice_bounds-result-end-2
+slice_bounds-result-end-2 : tie.Need-slice-bounds-result-end-2
 slice_bounds-result-end-2 c =
-    let a = c.before.before.before.before.before.args in
+    let a = c.args in
     omega (arith, entry_at a.bundle.now a.i (omega arith))
 
 returns : tie.Need-returns
 returns c =
-    let a = c.before.before.before.before.before.before.args in
-    part_is a.bundle.now a.i _ _ (omega arith) c.before.before.word-begin.ensures.0 (omega arith)
+    let a = c.args in
+    part_is a.bundle.now a.i _ _ (omega arith) c.word-begin.ensures.0 (omega arith)
 
 pub file_spec : {M : Type 1} → statement M
 file_spec =

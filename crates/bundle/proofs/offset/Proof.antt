@@ -21,18 +21,18 @@ overflow_add-i c = omega arith
 
 word-requires : tie.Need-word-requires
 word-requires c κs =
-    let a = c.before.before.before.args in
+    let a = c.args in
     omega (arith, entry_at a.bundle.now a.i (omega arith))
 
 returns-then-i-count : tie.Need-returns-then-i-count
 returns-then-i-count c =
-    let a = c.before.before.before.before.args in
+    let a = c.args in
     let h : a.i < length (files a.bundle.now) = omega arith in
     rw (lt-ltb _ _ h) (c.word.ensures.0 ∙ (entry_at a.bundle.now a.i h).placed)
 
 returns-else-i-count : tie.Need-returns-else-i-count
 returns-else-i-count c =
-    let a = c.before.before.before.args in
+    let a = c.args in
     let h : length (files a.bundle.now) ≤ a.i = omega arith in
     rw (le-ltb _ _ h)
 

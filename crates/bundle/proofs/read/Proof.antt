@@ -31,12 +31,12 @@ wide-n-requires c κs = tt
 
 returns-then-n-lt1 : tie.Need-returns-then-n-lt1 invariant-loop-i decreases-loop-i
 returns-then-n-lt1 c =
-    let b = c.before.before.before.before.before.args.bundle.now in
+    let b = c.args.bundle.now in
     wrong_count b (too_small 32 (file_count b) (omega arith))
 
 returns-then-n-gt32 : tie.Need-returns-then-n-gt32 invariant-loop-i decreases-loop-i
 returns-then-n-gt32 c =
-    let b = c.before.before.before.before.before.before.args.bundle.now in
+    let b = c.args.bundle.now in
     wrong_count b (too_large 32 (file_count b) (omega arith) (omega arith))
 
 overflow_mul-begin : tie.Need-overflow_mul-begin invariant-loop-i decreases-loop-i
@@ -47,8 +47,8 @@ overflow_add-begin c = omega arith
 
 loop-i-init : tie.Need-loop-i-init invariant-loop-i decreases-loop-i
 loop-i-init c =
-    let b = c.before.before.before.before.before.before.args.bundle.now in
-    (omega arith, c.before.before.wide-n.ensures.0, omega arith, omega arith, omega (arith, begin_first b), omega arith, row_start _)
+    let b = c.args.bundle.now in
+    (omega arith, c.wide-n.ensures.0, omega arith, omega arith, omega (arith, begin_first b), omega arith, row_start _)
 
 overflow_mul-at : tie.Need-overflow_mul-at invariant-loop-i decreases-loop-i
 overflow_mul-at c = omega arith
@@ -64,8 +64,8 @@ overflow_add-result c = omega arith
 
 returns-then-len-at : tie.Need-returns-then-len-at invariant-loop-i decreases-loop-i
 returns-then-len-at c =
-    let l = c.before.before.loop-i in
-    let b = c.before.before.before.before.before.before.before.before.before.args.bundle.now in
+    let l = c.loop-i in
+    let b = c.args.bundle.now in
     wrong_entry b (in_range 32 (file_count b) (omega arith) (omega arith)) l.i (omega arith) l.invariant.6 (cut_off b l.i (omega arith))
 
 word-requires : tie.Need-word-requires invariant-loop-i decreases-loop-i
@@ -76,10 +76,10 @@ overflow_add-result-then-word-begin c = omega arith
 
 returns-then-word-begin : tie.Need-returns-then-word-begin invariant-loop-i decreases-loop-i
 returns-then-word-begin c =
-    let l = c.before.before.before.before.loop-i in
-    let b = c.before.before.before.before.before.before.before.before.before.before.before.args.bundle.now in
+    let l = c.loop-i in
+    let b = c.args.bundle.now in
     wrong_entry b (in_range 32 (file_count b) (omega arith) (omega arith)) l.i (omega arith) l.invariant.6
-    (elsewhere b l.i (omega arith) (λ e. c.if-word-begin.true (c.before.word.ensures.0 ∙ e ∙ sym l.invariant.4)))
+    (elsewhere b l.i (omega arith) (λ e. c.if-word-begin.true (c.word.ensures.0 ∙ e ∙ sym l.invariant.4)))
 
 overflow_add-at-in-loop-i-2 : tie.Need-overflow_add-at-in-loop-i-2 invariant-loop-i decreases-loop-i
 overflow_add-at-in-loop-i-2 c = omega arith
@@ -95,8 +95,8 @@ overflow_add-result-then-len-begin c = omega arith
 
 returns-then-len-begin : tie.Need-returns-then-len-begin invariant-loop-i decreases-loop-i
 returns-then-len-begin c =
-    let l = c.before.before.before.before.before.before.loop-i in
-    let b = c.before.before.before.before.before.before.before.before.before.before.before.before.before.args.bundle.now in
+    let l = c.loop-i in
+    let b = c.args.bundle.now in
     wrong_entry b (in_range 32 (file_count b) (omega arith) (omega arith)) l.i (omega arith) l.invariant.6
     (past b l.i (omega arith) (omega arith) (omega arith))
 
@@ -108,8 +108,8 @@ loop-i-smaller c = omega arith
 
 loop-i-preserved : tie.Need-loop-i-preserved invariant-loop-i decreases-loop-i
 loop-i-preserved c =
-    let l = c.before.before.before.before.before.before.loop-i in
-    let b = c.before.before.before.before.before.before.before.before.before.before.before.before.before.args.bundle.now in (
+    let l = c.loop-i in
+    let b = c.args.bundle.now in (
       omega arith,
       l.invariant.1,
       l.invariant.2,
@@ -121,8 +121,8 @@ loop-i-preserved c =
 
 returns-then-begin-len : tie.Need-returns-then-begin-len invariant-loop-i decreases-loop-i
 returns-then-begin-len c =
-    let l = c.before.before.loop-i in
-    let b = c.before.before.before.before.before.before.before.before.before.args.bundle.now in
+    let l = c.loop-i in
+    let b = c.args.bundle.now in
     let e : l.i ≡ file_count b = omega arith in
     let p : first_refusal (places_checks b (file_count b)) ≡ none = ap (λ (k : ℕ). first_refusal (places_checks b k)) (sym e) ∙ l.invariant.6 in
     let s : begin_at b (file_count b) ≡ l.begin = ap (begin_at b) (sym e) ∙ sym l.invariant.4 in
@@ -130,8 +130,8 @@ returns-then-begin-len c =
 
 returns : tie.Need-returns invariant-loop-i decreases-loop-i
 returns c =
-    let l = c.before.before.loop-i in
-    let b = c.before.before.before.before.before.before.before.before.before.args.bundle.now in
+    let l = c.loop-i in
+    let b = c.args.bundle.now in
     let e : l.i ≡ file_count b = omega arith in
     let p : first_refusal (places_checks b (file_count b)) ≡ none = ap (λ (k : ℕ). first_refusal (places_checks b k)) (sym e) ∙ l.invariant.6 in
     let s : begin_at b (file_count b) ≡ l.begin = ap (begin_at b) (sym e) ∙ sym l.invariant.4 in

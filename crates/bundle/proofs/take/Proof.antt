@@ -45,24 +45,24 @@ use denote.Triple.Walked.{says, Stays, stay_none, walk_of, Goes-none, Walks, end
 use denote.Exit.{yes}
 use denote.Triple.Clauses.{ensured, lasts}
 use Rattle.model.specs.Bundle.{file_at, next_after}
-use Rattle.bundle-1.specs.declared.BundleReader.{BundleReader}
-use Rattle.bundle-1.specs.declared.Taken.{Taken}
-use Rattle.bundle-1.specs.contracts.BundleReader as T
-use Rattle.bundle-1.proofs.BundleReader.TheLaws as T'
-use Rattle.bundle-1.specs.contracts.Taken as R
-use Rattle.bundle-1.proofs.Taken.TheLaws as R'
-use Rattle.bundle-1.specs.contracts.file-file as file
-use Rattle.bundle-1.proofs.file-file.Symbol as file-def
-use Rattle.bundle-1.proofs.file-file.Symbol.{name as #bundle·file}
-use Rattle.bundle-1.proofs.file-file.Met as file-thm
-use Rattle.bundle-1.specs.contracts.after-next as after
-use Rattle.bundle-1.proofs.after-next.Symbol as after-def
-use Rattle.bundle-1.proofs.after-next.Symbol.{name as #bundle·after}
-use Rattle.bundle-1.proofs.after-next.Met as after-thm
-use Rattle.bundle-1.specs.contracts.take.Key.{name as #bundle·take}
-use Rattle.bundle-1.specs.contracts.take as take
-use Rattle.bundle-1.proofs.take.Statement as stated
-use Rattle.bundle-1.proofs.take.Code as code
+use Rattle.bundle.specs.declared.BundleReader.{BundleReader}
+use Rattle.bundle.specs.declared.Taken.{Taken}
+use Rattle.bundle.specs.contracts.BundleReader as T
+use Rattle.bundle.proofs.BundleReader.TheLaws as T'
+use Rattle.bundle.specs.contracts.Taken as R
+use Rattle.bundle.proofs.Taken.TheLaws as R'
+use Rattle.bundle.specs.contracts.file as file
+use Rattle.bundle.proofs.file.Symbol as file-def
+use Rattle.bundle.proofs.file.Symbol.{name as #bundle·file}
+use Rattle.bundle.proofs.file.Met as file-thm
+use Rattle.bundle.specs.contracts.after as after
+use Rattle.bundle.proofs.after.Symbol as after-def
+use Rattle.bundle.proofs.after.Symbol.{name as #bundle·after}
+use Rattle.bundle.proofs.after.Met as after-thm
+use Rattle.bundle.specs.contracts.take.Key.{name as #bundle·take}
+use Rattle.bundle.specs.contracts.take as take
+use Rattle.bundle.proofs.take.Statement as stated
+use Rattle.bundle.proofs.take.Code as code
 
 -- the reader's type, over the signature's lifetimes
 abbrev B : Lfts 1 → RattleType
@@ -87,7 +87,7 @@ module _ {M : Type 1} {𝓤 : Ura M} (𝓛 : Logic 𝓤) (mem : Memory → SProp
 
   -- the machine values of the slice and the number, and of a slice p
   abbrev v : Val
-  v = slice_val d.bundle-1.ref_ptr (length d.bundle-1.now)
+  v = slice_val d.bundle.ref_ptr (length d.bundle.now)
 
   abbrev spelt : Bor (List ℕ) → Val
   spelt p = slice_val p.ref_ptr (length p.now)
@@ -112,27 +112,27 @@ module _ {M : Type 1} {𝓤 : Ura M} (𝓛 : Logic 𝓤) (mem : Memory → SProp
   L = T'.the_laws α
 
   abbrev vd : Values D.parts
-  vd = (d.bundle-1, (d.next, tt))
+  vd = (d.bundle, (d.next, tt))
 
   -- the reader after this one, and what is answered
   abbrev d' : ℕ → BundleReader
-  d' m = record { bundle = d.bundle-1; next = m }
+  d' m = record { bundle = d.bundle; next = m }
 
   abbrev t : Bor (List ℕ) → ℕ → Taken
   t p m = record { file = p; rest = d' m }
 
   -- the calls: what each is passed, and what it asks
   abbrev to-file : (FileC 𝓛 mem run).Ghost
-  to-file = (((κ, tt), (q, tt), tt, (d.bundle-1, (d.next, tt)), (v ∷ [], (vint w64 d.next ∷ [], tt))), tt)
+  to-file = (((κ, tt), (q, tt), tt, (d.bundle, (d.next, tt)), (v ∷ [], (vint w64 d.next ∷ [], tt))), tt)
 
   abbrev to-after : (AfterC 𝓛 mem run).Ghost
-  to-after = (((κ, tt), (q, tt), tt, (d.bundle-1, (d.next, tt)), (v ∷ [], (vint w64 d.next ∷ [], tt))), tt)
+  to-after = (((κ, tt), (q, tt), tt, (d.bundle, (d.next, tt)), (v ∷ [], (vint w64 d.next ∷ [], tt))), tt)
 
   abbrev passed : Vals file.signature (κ, tt)
   passed = (v ∷ [], (vint w64 d.next ∷ [], tt))
 
   abbrev Fields : Fml
-  Fields = owns (ShrSlice (named 0) κ u8 ∷ usize ∷ []) (d.bundle-1, (d.next, tt)) passed
+  Fields = owns (ShrSlice (named 0) κ u8 ∷ usize ∷ []) (d.bundle, (d.next, tt)) passed
 
   file-asks : ent 𝓤 (⋆ 𝓛 ((‵ (flft κ q) ⊛ ‵ ftrue) ∷ ‵ Fields ∷ [])) ((FileC 𝓛 mem run).pre to-file)
   file-asks = qed 𝓛 ((‵ (flft κ q) ⊛ ‵ ftrue) ∷ ‵ Fields ∷ []) ∵ join ! $ frame ! $ done !
@@ -145,19 +145,19 @@ module _ {M : Type 1} {𝓤 : Ura M} (𝓛 : Logic 𝓤) (mem : Memory → SProp
   apart P asked fits =
       qed 𝓛 ((‵ (flft κ q) ⊛ ‵ ftrue) ∷ ‵ Own ∷ []) ∵
       move ! (1 ∷ []) $ use1 𝓛 (‵ Own ⊛ ‵ Own) ((LL.copy D (T'.the_copy α) 𝓛).twice d (mach ∷ [])) $ split ! $
-      use1 𝓛 (given (mach ∷ [] ≡ mach ∷ []) (‵ (all_own D.parts L vd))) (own_open 𝓛 D L vd mach) $ learn ! (λ _. use1 𝓛 (‵ (field_own D.parts L 0 d.bundle-1) ⊛ ‵ (rest D.parts L 0 vd)) (own_out 𝓛 D.parts L 0 vd) $ split ! $
+      use1 𝓛 (given (mach ∷ [] ≡ mach ∷ []) (‵ (all_own D.parts L vd))) (own_open 𝓛 D L vd mach) $ learn ! (λ _. use1 𝓛 (‵ (field_own D.parts L 0 d.bundle) ⊛ ‵ (rest D.parts L 0 vd)) (own_out 𝓛 D.parts L 0 vd) $ split ! $
       -- [what bundle owns; what next owns; what the reader owns; the token]
       move ! (1 ∷ []) $ drop ! $ nothing ! $ owned ! usize (Is usize) (uint_Makes 𝓛 w64) d.next _ (refl, fits) $ fjoin ! $ move ! (1 ∷ 0 ∷ []) $ fjoin ! $
       move ! (2 ∷ 0 ∷ []) $ use2 𝓛 (raw P) asked $ frame ! $ done !)
 
   -- of a callee's `ensured`, the clause alone: it has no `&mut`, so what is said of last values is dropped
-  file_said : (p : Bor (List ℕ)) → ent 𝓤 (ensured 𝓛 file.ended (file.clauses 𝓛 mem run) (κ, tt) (d.bundle-1, (d.next, tt)) tt p) (fact 𝓤 (p.now ≡ file_at d.bundle-1.now d.next))
-  file_said p = ex_e 𝓤 _ (λ ws. snd∗ 𝓤 (sem 𝓛 (lasts file.ended (κ, tt) (d.bundle-1, (d.next, tt)) ws)) (fact 𝓤 (p.now ≡ file_at d.bundle-1.now d.next)))
+  file_said : (p : Bor (List ℕ)) → ent 𝓤 (ensured 𝓛 file.ended (file.clauses 𝓛 mem run) (κ, tt) (d.bundle, (d.next, tt)) tt p) (fact 𝓤 (p.now ≡ file_at d.bundle.now d.next))
+  file_said p = ex_e 𝓤 _ (λ ws. snd∗ 𝓤 (sem 𝓛 (lasts file.ended (κ, tt) (d.bundle, (d.next, tt)) ws)) (fact 𝓤 (p.now ≡ file_at d.bundle.now d.next)))
 
-  after-said : (m : ℕ) → ent 𝓤 (ensured 𝓛 after.ended (after.clauses 𝓛 mem run) (κ, tt) (d.bundle-1, (d.next, tt)) tt m) (fact 𝓤 (m ≡ next_after d.bundle-1.now d.next))
-  after-said m = ex_e 𝓤 _ (λ ws. snd∗ 𝓤 (sem 𝓛 (lasts after.ended (κ, tt) (d.bundle-1, (d.next, tt)) ws)) (fact 𝓤 (m ≡ next_after d.bundle-1.now d.next)))
+  after-said : (m : ℕ) → ent 𝓤 (ensured 𝓛 after.ended (after.clauses 𝓛 mem run) (κ, tt) (d.bundle, (d.next, tt)) tt m) (fact 𝓤 (m ≡ next_after d.bundle.now d.next))
+  after-said m = ex_e 𝓤 _ (λ ws. snd∗ 𝓤 (sem 𝓛 (lasts after.ended (κ, tt) (d.bundle, (d.next, tt)) ws)) (fact 𝓤 (m ≡ next_after d.bundle.now d.next)))
 
-  exits : (p : Bor (List ℕ)) (m : ℕ) → p.now ≡ file_at d.bundle-1.now d.next → m ≡ next_after d.bundle-1.now d.next → m < 2 ^ 64
+  exits : (p : Bor (List ℕ)) (m : ℕ) → p.now ≡ file_at d.bundle.now d.next → m ≡ next_after d.bundle.now d.next → m < 2 ^ 64
       → ent 𝓤 (⋆ 𝓛 ((‵ (flft κ q) ⊛ ‵ ftrue) ∷ ‵ Own ∷ ‵ (Part p (spelt p)) ∷ [])) (Post (R'.lowered (t p m)))
   exits p m e e' fits =
       qed 𝓛 ((‵ (flft κ q) ⊛ ‵ ftrue) ∷ ‵ Own ∷ ‵ (Part p (spelt p)) ∷ []) ∵
@@ -178,8 +178,8 @@ module _ {M : Type 1} {𝓤 : Ura M} (𝓛 : Logic 𝓤) (mem : Memory → SProp
         move ! (15 ∷ []) $ fsplit ! $ move ! (1 ∷ []) $ drop ! $ move ! (15 ∷ 0 ∷ []) $
         use2 𝓛 (raw ((FileC 𝓛 mem run).pre to-file) ⊛ ‵ Own) (apart ((FileC 𝓛 mem run).pre to-file) file-asks wt.1.1.0.fits) $ split ! $
         calls_at ! fm (FileC 𝓛 mem run) known-file to-file (and_then ! (load ! (from ! (stop !)) (look ! 10 refl)) (and_then ! (load ! (from ! (stop !)) (look ! 8 refl)) (no_more !))) (λ u.
-        use1 𝓛 (later (some (λ (p : Bor (List ℕ)). ((‵ (flft κ q) ⊛ ‵ ftrue) ⊛ ‵ (Part p u)) ⊛ raw (ensured 𝓛 file.ended (file.clauses 𝓛 mem run) (κ, tt) (d.bundle-1, (d.next, tt)) tt p)))) (id⊢ 𝓤 _) $ await ! tt $ pick ! (λ p.
-        split ! $ move ! (1 ∷ []) $ use1 𝓛 (raw (fact 𝓤 (p.now ≡ file_at d.bundle-1.now d.next))) (file_said p) $ heard ! (p.now ≡ file_at d.bundle-1.now d.next) (λ e. split ! $ move ! (1 ∷ []) $
+        use1 𝓛 (later (some (λ (p : Bor (List ℕ)). ((‵ (flft κ q) ⊛ ‵ ftrue) ⊛ ‵ (Part p u)) ⊛ raw (ensured 𝓛 file.ended (file.clauses 𝓛 mem run) (κ, tt) (d.bundle, (d.next, tt)) tt p)))) (id⊢ 𝓤 _) $ await ! tt $ pick ! (λ p.
+        split ! $ move ! (1 ∷ []) $ use1 𝓛 (raw (fact 𝓤 (p.now ≡ file_at d.bundle.now d.next))) (file_said p) $ heard ! (p.now ≡ file_at d.bundle.now d.next) (λ e. split ! $ move ! (1 ∷ []) $
         -- [the part; the token; what the reader owns; _6; …]
         peeks ! (ShrSlice (named 0) κ u8) (Is (ShrSlice (named 0) κ u8)) (shows 𝓛 (ShrSlice (named 0) κ u8)) p (u ∷ []) (λ is.
         land ! (from ! (stop !)) (init ! 7 refl ((shr_slice_Lawful 𝓛 erased κ u8).typed p (u ∷ []) is).0) $
@@ -187,8 +187,8 @@ module _ {M : Type 1} {𝓤 : Ura M} (𝓛 : Logic 𝓤) (mem : Memory → SProp
         rewrite ! 0 (λ (x : Val). ‵ (Part p x)) (ap only (shr_slice_Tells (named 0) κ u8 p (u ∷ []) is)) refl $
         move ! (1 ∷ 2 ∷ []) $ use2 𝓛 (raw ((AfterC 𝓛 mem run).pre to-after) ⊛ ‵ Own) (apart ((AfterC 𝓛 mem run).pre to-after) after-asks wt.1.1.0.fits) $ split ! $
         calls_at ! fm (AfterC 𝓛 mem run) known-after to-after (and_then ! (load ! (from ! (stop !)) (look ! 11 refl)) (and_then ! (load ! (from ! (stop !)) (look ! 9 refl)) (no_more !))) (λ u'.
-        use1 𝓛 (later (some (λ (m : ℕ). ((‵ (flft κ q) ⊛ ‵ ftrue) ⊛ ‵ (usize.own_val m (u' ∷ []))) ⊛ raw (ensured 𝓛 after.ended (after.clauses 𝓛 mem run) (κ, tt) (d.bundle-1, (d.next, tt)) tt m)))) (id⊢ 𝓤 _) $ await ! tt $ pick ! (λ m.
-        split ! $ move ! (1 ∷ []) $ use1 𝓛 (raw (fact 𝓤 (m ≡ next_after d.bundle-1.now d.next))) (after-said m) $ heard ! (m ≡ next_after d.bundle-1.now d.next) (λ e'. split ! $ move ! (1 ∷ []) $
+        use1 𝓛 (later (some (λ (m : ℕ). ((‵ (flft κ q) ⊛ ‵ ftrue) ⊛ ‵ (usize.own_val m (u' ∷ []))) ⊛ raw (ensured 𝓛 after.ended (after.clauses 𝓛 mem run) (κ, tt) (d.bundle, (d.next, tt)) tt m)))) (id⊢ 𝓤 _) $ await ! tt $ pick ! (λ m.
+        split ! $ move ! (1 ∷ []) $ use1 𝓛 (raw (fact 𝓤 (m ≡ next_after d.bundle.now d.next))) (after-said m) $ heard ! (m ≡ next_after d.bundle.now d.next) (λ e'. split ! $ move ! (1 ∷ []) $
         -- [the number; the token; what the reader owns; the part; _6; …]
         peeks ! usize (Is usize) (shows 𝓛 usize) m (u' ∷ []) (λ is'.
         land ! (from ! (stop !)) (init ! 6 refl ((uint_Lawful 𝓛 w64).typed m _ is').0) $ rewrite ! 6 (λ (x : Val). ‵ (fat full_share (ty_int w64) l₅ 0 x)) (ap only is'.0) refl $ drop ! $

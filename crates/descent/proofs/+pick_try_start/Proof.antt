@@ -17,17 +17,17 @@ use Rattle.reservation.specs.Rows.{over_uses, with_one}
 use Rattle.reservation.specs.Place.{first_met}
 use Rattle.descent.specs.Descent.{Ready}
 use Rattle.descent.proofs.Steps.{AtProbe, AtStart, AfterProbe, rows_of, leaf, enters, moves, arrives, breaks, may_try, turned, leaves, breaks_above, leaves_empty, breaks_empty, op_few, next_use, next_few, unfit, can_reserve, deeper, can_release, given_back, back}
-use Rattle.descent.proofs.pick-f.Reads as pick
-use Rattle.descent.proofs.pick-f.Kinds as pick-kinds
+use Rattle.descent.proofs.pick.Reads as pick
+use Rattle.descent.proofs.pick.Kinds as pick-kinds
 use Rattle.descent.proofs.+pick_try_start.Lts-pick as pick-lts
-use Rattle.descent.proofs.try_start-f.Reads as try-start
-use Rattle.descent.proofs.try_start-f.Kinds as try-start-kinds
+use Rattle.descent.proofs.try_start.Reads as try-start
+use Rattle.descent.proofs.try_start.Kinds as try-start-kinds
 use Rattle.descent.proofs.+pick_try_start.Lts-try_start as try-start-lts
 use Rattle.reservation.proofs.cells.release.Reads as release-reads
 use Rattle.reservation.proofs.cells.reserve.Reads as reserve-reads
 use Rattle.descent.proofs.skip.excluded.Reads as excluded-reads
-use Rattle.descent.proofs.skip.next_free-s.Reads as next-free-reads
-use Rattle.descent.proofs.window.window_of-w.Reads as window-of-reads
+use Rattle.descent.proofs.skip.next_free.Reads as next-free-reads
+use Rattle.descent.proofs.window.window_of.Reads as window-of-reads
 use Rattle.loop_access.proofs.use_count.Reads as use-count-reads
 use Rattle.descent.proofs.+pick_try_start.{statement}
 use Rattle.descent.proofs.+pick_try_start.Tie.{close}
@@ -88,40 +88,40 @@ pick_next_free_requires t c κs =
 
 pick_loop_holds : (t : ℕ) → pick-lts.Need-loop-init (tries t) (pick_at t) pick.Post pick_Inv_loop pick-μ-loop
 pick_loop_holds t c =
-    let p = c.before.before.before.before.requires.1 in enters p.0.ready p.0.window p.0.inside c.next_free-s.ensures
+    let p = c.before.before.before.before.requires.1 in enters p.0.ready p.0.window p.0.inside c.next-free.ensures
 
 -- the entry of pick, from its loop's head
 abbrev entry : (t : ℕ) → pick-lts.At-loop (tries t) (pick_at t) pick.Post pick_Inv_loop pick-μ-loop → pick-lts.Start (tries t) (pick_at t) pick.Post pick_Inv_loop pick-μ-loop
 entry t g = g.before.before.before.before.before
 
 pick_sub_passed : (t : ℕ) → pick-lts.Need-overflow-sub-passed (tries t) (pick_at t) pick.Post pick_Inv_loop pick-μ-loop
-pick_sub_passed t c = omega (arith, c.before.before.loop-s.invariant.behind)
+pick_sub_passed t c = omega (arith, c.before.before.loop.invariant.behind)
 
 pick_same_length : (t : ℕ) → pick-lts.Need-same-length (tries t) (pick_at t) pick.Post pick_Inv_loop pick-μ-loop
-pick_same_length t c = ap (λ (l : List ℕ). length l) c.before.before.before.loop-s.invariant.turn.rows_same
+pick_same_length t c = ap (λ (l : List ℕ). length l) c.before.before.before.loop.invariant.turn.rows_same
 
 pick_returns : (t : ℕ) → pick-lts.Need-returns (tries t) (pick_at t) pick.Post pick_Inv_loop pick-μ-loop
 pick_returns t c =
     let g = c.before.before.before in
     let p = (entry t g).requires.1 in
-    (breaks p.0.ready p.0.window p.0.inside g.loop-s.invariant c.before.loop-s-test.true c.if-purse-passed.true, g.loop-s.invariant.turn.rows_same)
+    (breaks p.0.ready p.0.window p.0.inside g.loop.invariant c.before.if1.true c.if2.true, g.loop.invariant.turn.rows_same)
 
 pick_sub_try_start : (t : ℕ) → pick-lts.Need-overflow-sub-try-start (tries t) (pick_at t) pick.Post pick_Inv_loop pick-μ-loop
-pick_sub_try_start t c = omega (arith, c.before.if-purse-passed.false)
+pick_sub_try_start t c = omega (arith, c.before.if2.false)
 
 pick_sub_try_start_2 : (t : ℕ) → pick-lts.Need-overflow-sub-try-start-2 (tries t) (pick_at t) pick.Post pick_Inv_loop pick-μ-loop
-pick_sub_try_start_2 t c = omega (arith, c.before.if-purse-passed.false)
+pick_sub_try_start_2 t c = omega (arith, c.before.if2.false)
 
 -- where the start is to be tried
 at : (t : ℕ) (e : pick-lts.Else2 (tries t) (pick_at t) pick.Post pick_Inv_loop pick-μ-loop)
     → let g = e.before.before.before in
     let a = (entry t g).args in
-    AtProbe a.file.now a.starts.now a.rows-1.now a.op a.n a.interval a.horizon a.left g.loop-s.starts g.loop-s.rows-1
-    (g.loop-s.purse - (g.loop-s.s - g.loop-s.paid)) g.loop-s.s
+    AtProbe a.file.now a.starts.now a.rows.now a.op a.n a.interval a.horizon a.left g.loop.starts g.loop.rows
+    (g.loop.purse - (g.loop.s - g.loop.paid)) g.loop.s
 at t e =
     let g = e.before.before.before in
     let p = (entry t g).requires.1 in
-    arrives p.0.ready p.0.window p.0.inside g.loop-s.invariant (omega (arith, e.if-purse-passed.false))
+    arrives p.0.ready p.0.window p.0.inside g.loop.invariant (omega (arith, e.if2.false))
 
 pick_try_start_requires : (t : ℕ) → pick-lts.Need-try-start-requires (tries t) (pick_at t) pick.Post pick_Inv_loop pick-μ-loop
 pick_try_start_requires t c κs =
@@ -129,24 +129,24 @@ pick_try_start_requires t c κs =
     let g = e.before.before.before in
     let b = entry t g in
     let p = b.pre.1 in (
-      omega (arith, b.pre.0, g.loop-s.invariant.turn.paid, e.if-purse-passed.false),
-      (may_try p.0.ready (at t e) p.0.window p.0.inside g.loop-s.invariant.begun e.before.loop-s-test.true p.0.first_is, p.1),
+      omega (arith, b.pre.0, g.loop.invariant.turn.paid, e.if2.false),
+      (may_try p.0.ready (at t e) p.0.window p.0.inside g.loop.invariant.begun e.before.if1.true p.0.first_is, p.1),
     )
 
 -- a start before the window's end is below the horizon
-near : (t : ℕ) (c : pick-lts.Then1 (tries t) (pick_at t) pick.Post pick_Inv_loop pick-μ-loop) → c.before.before.loop-s.s < (entry t c.before.before).args.horizon
-near t c = omega (arith, c.loop-s-test.true, (entry t c.before.before).pre.1.0.window.near)
+near : (t : ℕ) (c : pick-lts.Then1 (tries t) (pick_at t) pick.Post pick_Inv_loop pick-μ-loop) → c.before.before.loop.s < (entry t c.before.before).args.horizon
+near t c = omega (arith, c.if1.true, (entry t c.before.before).pre.1.0.window.near)
 
 -- after the call
 there : (t : ℕ) (f : pick-lts.After-try-start (tries t) (pick_at t) pick.Post pick_Inv_loop pick-μ-loop)
     → let g = f.before.before.before.before.before.before in
     let a = (entry t g).args in
-    AfterProbe a.file.now a.starts.now a.rows-1.now a.op a.n a.interval a.horizon a.left
-    f.try_start-f.new.1.1.1.1.1.0 f.try_start-f.new.1.0 f.try_start-f.result g.loop-s.s
+    AfterProbe a.file.now a.starts.now a.rows.now a.op a.n a.interval a.horizon a.left
+    f.try-start.new.1.1.1.1.1.0 f.try-start.new.1.0 f.try-start.result g.loop.s
 there t f =
     let e = f.before.before.before in
     let g = e.before.before.before in
-    turned (entry t g).requires.1.0.ready (at t e) (near t e.before) (λ z. omega (arith, e.if-purse-passed.false)) f.try_start-f.ensures.0 f.try_start-f.ensures.1
+    turned (entry t g).requires.1.0.ready (at t e) (near t e.before) (λ z. omega (arith, e.if2.false)) f.try-start.ensures.0 f.try-start.ensures.1
 
 pick_enum_known_f : (t : ℕ) → pick-lts.Need-enum-known-f (tries t) (pick_at t) pick.Post pick_Inv_loop pick-μ-loop
 pick_enum_known_f t c = c.match.keys1
@@ -155,7 +155,7 @@ pick_same_length_2 : (t : ℕ) → pick-lts.Need-same-length-2 (tries t) (pick_a
 pick_same_length_2 t c = ap (λ (l : List ℕ). length l) (there t c.before.before.before.before.before).same
 
 pick_returns_2 : (t : ℕ) → pick-lts.Need-returns-2 (tries t) (pick_at t) pick.Post pick_Inv_loop pick-μ-loop
-pick_returns_2 t c = let h = there t c.before.before.before.before.before in (h.if_all _ c.before.f-1.given.1, h.same)
+pick_returns_2 t c = let h = there t c.before.before.before.before.before in (h.if_all _ c.before.f.given.1, h.same)
 
 pick_enum_told : (t : ℕ) → pick-lts.Need-enum-told (tries t) (pick_at t) pick.Post pick_Inv_loop pick-μ-loop
 pick_enum_told t c = c.match.keys2
@@ -164,7 +164,7 @@ pick_same_length_3 : (t : ℕ) → pick-lts.Need-same-length-3 (tries t) (pick_a
 pick_same_length_3 t c = ap (λ (l : List ℕ). length l) (there t c.before.before.before.before).same
 
 pick_returns_3 : (t : ℕ) → pick-lts.Need-returns-3 (tries t) (pick_at t) pick.Post pick_Inv_loop pick-μ-loop
-pick_returns_3 t c = let h = there t c.before.before.before.before in (h.if_spent c.enum_told-1.given.1, h.same)
+pick_returns_3 t c = let h = there t c.before.before.before.before in (h.if_spent c.enum_told.given.1, h.same)
 
 pick_enum_known_f_2 : (t : ℕ) → pick-lts.Need-enum-known-f-2 (tries t) (pick_at t) pick.Post pick_Inv_loop pick-μ-loop
 pick_enum_known_f_2 t c = c.match.keys3
@@ -181,38 +181,38 @@ pick_next_free_requires_2 t c κs =
     let d = c.before in
     let i = turn t d in
     let p = (entry t i.before.before).pre.1 in
-    (rows_of p.0.ready p.0.inside p.0.first_is (there t d.before.before.before.before.before).same, omega (arith, i.loop-s-test.taken), omega (arith, p.0.window.near, p.0.ready.near))
+    (rows_of p.0.ready p.0.inside p.0.first_is (there t d.before.before.before.before.before).same, omega (arith, i.if1.taken), omega (arith, p.0.window.near, p.0.ready.near))
 
 pick_loop_less : (t : ℕ) → pick-lts.Need-loop-smaller (tries t) (pick_at t) pick.Post pick_Inv_loop pick-μ-loop
-pick_loop_less t c = let i = turn t c.before.before in omega (arith, near t i, c.next_free-s-in-loop-s.ensures.behind)
+pick_loop_less t c = let i = turn t c.before.before in omega (arith, near t i, c.next-free2.ensures.behind)
 
 pick_loop_again : (t : ℕ) → pick-lts.Need-loop-preserved (tries t) (pick_at t) pick.Post pick_Inv_loop pick-μ-loop
 pick_loop_again t c =
     let d = c.before.before in
     let i = turn t d in
     let p = (entry t i.before.before).pre.1 in
-    moves p.0.ready p.0.window p.0.inside ((there t d.before.before.before.before.before).if_none _ d.before.f-in-Nothing-1.given.1) c.next_free-s-in-loop-s.ensures (omega (arith, i.before.before.loop-s.inv.begun))
+    moves p.0.ready p.0.window p.0.inside ((there t d.before.before.before.before.before).if_none _ d.before.f2.given.1) c.next-free2.ensures (omega (arith, i.before.before.loop.inv.begun))
 
 pick_sub_above : (t : ℕ) → pick-lts.Need-overflow-sub-above (tries t) (pick_at t) pick.Post pick_Inv_loop pick-μ-loop
-pick_sub_above t c = c.before.before.loop-s.invariant.turn.within
+pick_sub_above t c = c.before.before.loop.invariant.turn.within
 
 pick_same_length_4 : (t : ℕ) → pick-lts.Need-same-length-4 (tries t) (pick_at t) pick.Post pick_Inv_loop pick-μ-loop
-pick_same_length_4 t c = ap (λ (l : List ℕ). length l) c.before.before.before.loop-s.invariant.turn.rows_same
+pick_same_length_4 t c = ap (λ (l : List ℕ). length l) c.before.before.before.loop.invariant.turn.rows_same
 
 pick_returns_4 : (t : ℕ) → pick-lts.Need-returns-4 (tries t) (pick_at t) pick.Post pick_Inv_loop pick-μ-loop
 pick_returns_4 t c =
     let g = c.before.before.before in
     let p = (entry t g).requires.1 in
-    (breaks_above p.0.ready p.0.window p.0.inside g.loop-s.invariant c.before.loop-s-test.false c.if-purse-above.true, g.loop-s.invariant.turn.rows_same)
+    (breaks_above p.0.ready p.0.window p.0.inside g.loop.invariant c.before.if1.false c.if3.true, g.loop.invariant.turn.rows_same)
 
 pick_same_length_5 : (t : ℕ) → pick-lts.Need-same-length-5 (tries t) (pick_at t) pick.Post pick_Inv_loop pick-μ-loop
-pick_same_length_5 t c = ap (λ (l : List ℕ). length l) c.before.before.before.loop-s.invariant.turn.rows_same
+pick_same_length_5 t c = ap (λ (l : List ℕ). length l) c.before.before.before.loop.invariant.turn.rows_same
 
 pick_returns_5 : (t : ℕ) → pick-lts.Need-returns-5 (tries t) (pick_at t) pick.Post pick_Inv_loop pick-μ-loop
 pick_returns_5 t c =
     let g = c.before.before.before in
     let p = (entry t g).requires.1 in
-    (leaves p.0.ready p.0.window p.0.inside g.loop-s.invariant c.before.loop-s-test.false c.if-purse-above.false, g.loop-s.invariant.turn.rows_same)
+    (leaves p.0.ready p.0.window p.0.inside g.loop.invariant c.before.if1.false c.if3.false, g.loop.invariant.turn.rows_same)
 
 -- ---- try_start
 
@@ -228,7 +228,7 @@ try_start_returns t c =
     let k = c.before in
     let b = k.before.before.before.before in
     let p = b.requires.1.0 in
-    (unfit p (λ e. k.excluded.ensures.taken 0 c.loop-s-test.true (ap (λ (x : ℕ). first_met row_base b.args.interval b.args.rows-1.now x (op_at (loop_of b.args.file.now) b.args.op).uses) (add-zero b.args.s) ∙ e)), refl)
+    (unfit p (λ e. k.excluded.ensures.taken 0 c.if1.true (ap (λ (x : ℕ). first_met row_base b.args.interval b.args.rows.now x (op_at (loop_of b.args.file.now) b.args.op).uses) (add-zero b.args.s) ∙ e)), refl)
 
 -- where the test is passed
 abbrev Passed : ℕ → Type 0
@@ -239,8 +239,8 @@ abbrev first : (t : ℕ) → Passed t → try-start-lts.Start (calls t) (try_sta
 first t f = f.before.before.before.before.before
 
 -- nothing is taken there
-free : (t : ℕ) (f : Passed t) → let a = (first t f).args in first_met row_base a.interval a.rows-1.now a.s (op_at (loop_of a.file.now) a.op).uses ≡ none
-free t f = f.before.excluded.ensures.free (omega (arith, f.loop-s-test.left))
+free : (t : ℕ) (f : Passed t) → let a = (first t f).args in first_met row_base a.interval a.rows.now a.s (op_at (loop_of a.file.now) a.op).uses ≡ none
+free t f = f.before.excluded.ensures.free (omega (arith, f.if1.left))
 
 try_start_cast_starts : (t : ℕ) → try-start-lts.Need-overflow-cast-starts (calls t) (try_start_at t) try-start.Post
 try_start_cast_starts t c = let p = (first t c).requires.1.0 in omega (arith, p.start_near, p.ready.near)
@@ -253,7 +253,7 @@ try_start_element_write_starts t c = omega (arith, op_few (first t c).requires.1
 
 -- the search one operation deeper, with the rows as they would be with it
 next_ready : (t : ℕ) (f : Passed t) → let a = (first t f).args in
-    Ready a.file.now (set a.starts.now a.op a.s) (over_uses (with_one row_base) a.interval a.s (op_at (loop_of a.file.now) a.op).uses (length (op_at (loop_of a.file.now) a.op).uses) a.rows-1.now)
+    Ready a.file.now (set a.starts.now a.op a.s) (over_uses (with_one row_base) a.interval a.s (op_at (loop_of a.file.now) a.op).uses (length (op_at (loop_of a.file.now) a.op).uses) a.rows.now)
     (a.op + 1) a.n a.interval a.horizon
 next_ready t f = deeper (first t f).pre.1.0 (free t f) refl
 
@@ -267,14 +267,14 @@ try_start_returns_2 : (t : ℕ) → try-start-lts.Need-returns-2 (calls t) (try_
 try_start_returns_2 t c =
     let f = c.before in
     let b = first t f in
-    (back b.pre.1.0 b.args.left (leaf (next_ready t f) c.if-purse-passed.true), refl)
+    (back b.pre.1.0 b.args.left (leaf (next_ready t f) c.if2.true), refl)
 
 try_start_add_window_of : (t : ℕ) → try-start-lts.Need-overflow-add-window-of (calls t) (try_start_at t) try-start.Post
 try_start_add_window_of t c = omega (arith, op_few (first t c.before).pre.1.0)
 
 -- there is a next operation
 further : (t : ℕ) (c : try-start-lts.Else2 (calls t) (try_start_at t) try-start.Post) → let a = (first t c.before).args in a.op + 1 < a.n
-further t c = omega (arith, (first t c.before).pre.1.0.inside, c.if-purse-passed.false)
+further t c = omega (arith, (first t c.before).pre.1.0.inside, c.if2.false)
 
 try_start_window_of_requires : (t : ℕ) → try-start-lts.Need-window-of-requires (calls t) (try_start_at t) try-start.Post
 try_start_window_of_requires t c κs =
@@ -292,7 +292,7 @@ try_start_returns_3 t c =
     let w = v.before.before in
     let d = w.before.before in
     let b = first t d.before in
-    (back b.pre.1.0 b.args.left (breaks_empty (next_ready t d.before) w.window_of-w.ensures (further t d) v.if-purse-above.true c.if-left-horizon.true), refl)
+    (back b.pre.1.0 b.args.left (breaks_empty (next_ready t d.before) w.window-of.ensures (further t d) v.if3.true c.if4.true), refl)
 
 try_start_same_length_4 : (t : ℕ) → try-start-lts.Need-same-length-4 (calls t) (try_start_at t) try-start.Post
 try_start_same_length_4 t c = refl
@@ -303,7 +303,7 @@ try_start_returns_4 t c =
     let w = v.before.before in
     let d = w.before.before in
     let b = first t d.before in
-    (back b.pre.1.0 b.args.left (leaves_empty (next_ready t d.before) w.window_of-w.ensures (further t d) v.if-purse-above.true c.if-left-horizon.false), refl)
+    (back b.pre.1.0 b.args.left (leaves_empty (next_ready t d.before) w.window-of.ensures (further t d) v.if3.true c.if4.false), refl)
 
 try_start_reserve_requires : (t : ℕ) → try-start-lts.Need-reserve-requires (calls t) (try_start_at t) try-start.Post
 try_start_reserve_requires t c κs =
@@ -339,7 +339,7 @@ try_start_pick_requires t c κs =
     let v = kept t u.before in
     let f = before t v in
     let w = v.before.before.before.before in
-    (omega (arith, (first t f).pre.0), (record { ready = deeper (first t f).pre.1.0 (free t f) v.reserve.ensures; inside = further t w.before.before; first_is = next_first t u; window = w.window_of-w.ensures }, (first t f).pre.1.1))
+    (omega (arith, (first t f).pre.0), (record { ready = deeper (first t f).pre.1.0 (free t f) v.reserve.ensures; inside = further t w.before.before; first_is = next_first t u; window = w.window-of.ensures }, (first t f).pre.1.1))
 
 -- after the call: where the operation was reserved
 abbrev put : (t : ℕ) → try-start-lts.After-pick (calls t) (try_start_at t) try-start.Post → try-start-lts.After-reserve (calls t) (try_start_at t) try-start.Post
@@ -353,7 +353,7 @@ try_start_release_requires : (t : ℕ) → try-start-lts.Need-release-requires (
 try_start_release_requires t c κs =
     let w = c.before.before.before in
     let p = (first t (passed t w)).pre.1.0 in
-    (p.ready.accepted, omega (arith, p.inside, p.ready.is_size), can_release p (free t (passed t w)) (put t w).reserve.ensures w.pick-f.ensures.1, p.first_is)
+    (p.ready.accepted, omega (arith, p.inside, p.ready.is_size), can_release p (free t (passed t w)) (put t w).reserve.ensures w.pick.ensures.1, p.first_is)
 
 -- at the end: the call
 abbrev call : (t : ℕ) → try-start-lts.After-slice-known4 (calls t) (try_start_at t) try-start.Post → try-start-lts.After-pick (calls t) (try_start_at t) try-start.Post
@@ -361,17 +361,17 @@ call t c = c.before.before.before.before.before.before
 
 -- and the rows as they were
 as_before : (t : ℕ) (c : try-start-lts.After-slice-known4 (calls t) (try_start_at t) try-start.Post)
-    → c.before.before.release.new.1.1.1.1.1.0 ≡ (first t (passed t (call t c))).args.rows-1.now
+    → c.before.before.release.new.1.1.1.1.1.0 ≡ (first t (passed t (call t c))).args.rows.now
 as_before t c =
     let w = call t c in
-    given_back (first t (passed t w)).pre.1.0 (free t (passed t w)) (put t w).reserve.ensures w.pick-f.ensures.1 c.before.before.release.ensures
+    given_back (first t (passed t w)).pre.1.0 (free t (passed t w)) (put t w).reserve.ensures w.pick.ensures.1 c.before.before.release.ensures
 
 try_start_same_length_5 : (t : ℕ) → try-start-lts.Need-same-length-5 (calls t) (try_start_at t) try-start.Post
 try_start_same_length_5 t c = ap (λ (l : List ℕ). length l) (as_before t c)
 
 try_start_returns_5 : (t : ℕ) → try-start-lts.Need-returns-5 (calls t) (try_start_at t) try-start.Post
 try_start_returns_5 t c =
-    let b = first t (passed t (call t c)) in (back b.pre.1.0 b.args.left (call t c).pick-f.ensures.0, as_before t c)
+    let b = first t (passed t (call t c)) in (back b.pre.1.0 b.args.left (call t c).pick.ensures.0, as_before t c)
 
 pub +pick-try-start-spec : {M : Type 1} → statement M
 +pick-try-start-spec = close μ-pick μ-try-start (λ t. pick-lts.spec (tries t)

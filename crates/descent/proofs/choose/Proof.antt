@@ -6,7 +6,7 @@ use Rattle.descent.proofs.choose.Statement.{statement}
 use Rattle.descent.proofs.choose.Tie as tie
 
 returns-then-op-n : tie.Need-returns-then-op-n
-returns-then-op-n c = (leaf c.before.before.before.requires c.if-op-n.true, refl)
+returns-then-op-n c = (leaf c.requires c.if-op-n.true, refl)
 
 link-links-requires : tie.Need-link-links-requires
 link-links-requires c κs = search rules

@@ -19,10 +19,10 @@ abbrev decreases-loop-j : tie.decreases-loop-j
 decreases-loop-j file op comes free₀ first n j₀ free j = n - j
 
 first_use-first-requires : tie.Need-first_use-first-requires invariant-loop-j decreases-loop-j
-first_use-first-requires c κs = let p = c.before.requires in (p.0, p.1)
+first_use-first-requires c κs = let p = c.requires in (p.0, p.1)
 
 use_count-n-requires : tie.Need-use_count-n-requires invariant-loop-j decreases-loop-j
-use_count-n-requires c κs = let p = c.before.before.requires in (p.0, p.1)
+use_count-n-requires c κs = let p = c.requires in (p.0, p.1)
 
 loop-j-init : tie.Need-loop-j-init invariant-loop-j decreases-loop-j
 loop-j-init c = let s = c.before.before.before in (omega arith, moved_none s.requires.2.whole (uses_none (op_at (loop_of s.args.file.now) s.args.op)))
@@ -37,30 +37,30 @@ whose c = op_at (loop_of (entry c).args.file.now) (entry c).args.op
 
 -- the use whose turn it is
 abbrev now-use : tie.In-loop-j invariant-loop-j decreases-loop-j → Use
-now-use c = use_at (whose c) c.before.loop-j.j
+now-use c = use_at (whose c) c.loop-j.j
 
 -- its number among all uses
 here : (c : tie.In-loop-j invariant-loop-j decreases-loop-j)
-    → UseHere (entry c).args.file.now (entry c).args.op c.before.loop-j.j (c.before.before.before.first_use-first.result + c.before.loop-j.j)
+    → UseHere (entry c).args.file.now (entry c).args.op c.loop-j.j (c.first_use-first.result + c.loop-j.j)
 here c =
     let s = entry c in
     let f = c.before.before.before in
-    use_here s.args.file.now s.args.op c.before.loop-j.j f.first_use-first.result c.before.before.use_count-n.result s.pre.0 s.pre.1 f.first_use-first.ensures
-    c.before.before.use_count-n.ensures c.loop-j-test.true
+    use_here s.args.file.now s.args.op c.loop-j.j f.first_use-first.result c.use_count-n.result s.requires.0 s.requires.1 f.first_use-first.ensures
+    c.use_count-n.ensures c.loop-j-test.true
 
 -- it is one of the operation's
-below : (c : tie.In-loop-j invariant-loop-j decreases-loop-j) → c.before.loop-j.j < length (whose c).uses
-below c = omega (arith, c.loop-j-test.true, c.before.before.use_count-n.ensures)
+below : (c : tie.In-loop-j invariant-loop-j decreases-loop-j) → c.loop-j.j < length (whose c).uses
+below c = omega (arith, c.loop-j-test.true, c.use_count-n.ensures)
 
 -- and in range
 ok : (c : tie.In-loop-j invariant-loop-j decreases-loop-j) → UseOk (now-use c)
-ok c = let s = entry c in ((accepted_ok s.args.file.now s.pre.0).op_ok s.args.op s.pre.1).each c.before.loop-j.j (below c)
+ok c = let s = entry c in ((accepted_ok s.args.file.now s.requires.0).op_ok s.args.op s.requires.1).each c.loop-j.j (below c)
 
 -- and there is room for it
-room : (c : tie.In-loop-j invariant-loop-j decreases-loop-j) → Room (entry c).args.comes (λ s. use_on s (now-use c)) c.before.loop-j.free
+room : (c : tie.In-loop-j invariant-loop-j decreases-loop-j) → Room (entry c).args.comes (λ s. use_on s (now-use c)) c.loop-j.free
 room c =
     let r = (entry c).requires.2 in
-    room_after (λ s. uses_part (whose c) c.before.loop-j.j s (below c)) r c.before.loop-j.invariant.1
+    room_after (λ s. uses_part (whose c) c.loop-j.j s (below c)) r c.loop-j.invariant.1
 
 overflow_add-first : tie.Need-overflow_add-first invariant-loop-j decreases-loop-j
 overflow_add-first c = omega (arith, here c)
@@ -69,12 +69,12 @@ slot-at-requires : tie.Need-slot-at-requires invariant-loop-j decreases-loop-j
 slot-at-requires c κs = ((entry c).requires.0, (here c).inside)
 
 -- what is read of it: its slot
-slot_is : (c : tie.After-slot-at invariant-loop-j decreases-loop-j) → c.slot-at.result ≡ (now-use c.before).slot-at
-slot_is c = c.slot-at.ensures ∙ ap (λ (u : Use). u.slot-at) (here c.before).is
+slot_is : (c : tie.After-slot-at invariant-loop-j decreases-loop-j) → c.slot-at.result ≡ (now-use c.before).slot
+slot_is c = c.slot-at.ensures ∙ ap (λ (u : Use). u.slot) (here c.before).is
 
 -- and its duration
-duration_is : (c : tie.After-duration-cycles invariant-loop-j decreases-loop-j) → c.duration-cycles.result ≡ (now-use c.before.before).duration-cycles
-duration_is c = c.duration-cycles.ensures ∙ ap (λ (u : Use). u.duration-cycles) (here c.before.before).is
+duration_is : (c : tie.After-duration-cycles invariant-loop-j decreases-loop-j) → c.duration-cycles.result ≡ (now-use c.before.before).duration
+duration_is c = c.duration-cycles.ensures ∙ ap (λ (u : Use). u.duration) (here c.before.before).is
 
 -- the number of its slot is one of the 24
 inside : (c : tie.After-slot-at invariant-loop-j decreases-loop-j) → c.slot-at.result - 1 < 24
@@ -87,7 +87,7 @@ overflow_add-first-in-loop-j : tie.Need-overflow_add-first-in-loop-j invariant-l
 overflow_add-first-in-loop-j c = omega (arith, here c.before)
 
 duration-cycles-requires : tie.Need-duration-cycles-requires invariant-loop-j decreases-loop-j
-duration-cycles-requires c κs = ((entry c.before).pre.0, (here c.before).inside)
+duration-cycles-requires c κs = ((entry c.before).requires.0, (here c.before).inside)
 
 overflow_cast-cycles : tie.Need-overflow_cast-cycles invariant-loop-j decreases-loop-j
 overflow_cast-cycles c = omega (arith, duration_is c, (ok c.before.before).ends)
@@ -121,15 +121,15 @@ loop-j-preserved : tie.Need-loop-j-preserved invariant-loop-j decreases-loop-j
 loop-j-preserved c =
     let d = c.before.before in
     let i = d.before.before in
-    let h = i.before.loop-j.invariant.1 in
+    let h = i.loop-j.invariant.1 in
     let e = rw (slot_is d.before, duration_is d) at c.moved.ensures in
-    (omega arith, moved_more (uses_next (whose i) i.before.loop-j.j) h (rw (slot_is d.before) (moved_use i.before.loop-j.free c.moved.result (ok i) h.whole e)))
+    (omega arith, moved_more (uses_next (whose i) i.loop-j.j) h (rw (slot_is d.before) (moved_use i.loop-j.free c.moved.result (ok i) h.whole e)))
 
 returns : tie.Need-returns invariant-loop-j decreases-loop-j
 returns c =
     let s = c.before.before.before.before.before in
-    let e : c.before.loop-j.j ≡ length (op_at (loop_of s.args.file.now) s.args.op).uses = omega (arith, c.before.before.use_count-n.ensures) in
-    moved_as (λ t. ap (λ (n : ℕ). uses_on (op_at (loop_of s.args.file.now) s.args.op) n t) e ∙ uses_all (op_at (loop_of s.args.file.now) s.args.op) t) c.before.loop-j.invariant.1
+    let e : c.loop-j.j ≡ length (op_at (loop_of s.args.file.now) s.args.op).uses = omega (arith, c.use_count-n.ensures) in
+    moved_as (λ t. ap (λ (n : ℕ). uses_on (op_at (loop_of s.args.file.now) s.args.op) n t) e ∙ uses_all (op_at (loop_of s.args.file.now) s.args.op) t) c.loop-j.invariant.1
 
 pub count_spec : {M : Type 1} → statement M
 count_spec =

@@ -28,14 +28,14 @@ abbrev entry : tie.In-loop-left invariant-loop-left decreases-loop-left → tie.
 entry c = c.before.before.before
 
 -- operation p is there
-below : (c : tie.In-loop-left invariant-loop-left decreases-loop-left) → c.before.loop-left.p < size (loop_of (entry c).args.file.now)
+below : (c : tie.In-loop-left invariant-loop-left decreases-loop-left) → c.loop-left.p < size (loop_of (entry c).args.file.now)
 below c =
-    bits_left (entry c).args.mask (size (loop_of (entry c).args.file.now)) c.before.loop-left.p (entry c).requires.1
-    (omega (arith, c.before.loop-left.invariant.1, c.loop-left-test.true))
+    bits_left (entry c).args.mask (size (loop_of (entry c).args.file.now)) c.loop-left.p (entry c).requires.1
+    (omega (arith, c.loop-left.invariant.1, c.loop-left-test.true))
 
 -- the lowest bit that is left is that of operation p
-bit : (c : tie.In-loop-left invariant-loop-left decreases-loop-left) → c.before.loop-left.left % 2 ≡ (entry c).args.mask / 2 ^ c.before.loop-left.p % 2
-bit c = ap (λ (n : ℕ). n % 2) c.before.loop-left.invariant.1
+bit : (c : tie.In-loop-left invariant-loop-left decreases-loop-left) → c.loop-left.left % 2 ≡ (entry c).args.mask / 2 ^ c.loop-left.p % 2
+bit c = ap (λ (n : ℕ). n % 2) c.loop-left.invariant.1
 
 -- operation p is one of those that there is room for
 count-requires : tie.Need-count-requires invariant-loop-left decreases-loop-left
@@ -43,11 +43,11 @@ count-requires c κs =
     let i = c.before.before in
     let s = entry i in
     let l = loop_of s.args.file.now in
-    let h = i.before.loop-left.invariant.2 in
-    (s.pre.0, below i, room_after (λ t. named_part l s.args.mask i.before.loop-left.p (size l) t (below i) (sym (bit i) ∙ c.before.if-left-eq1.true)) s.pre.2 h)
+    let h = i.loop-left.invariant.2 in
+    (s.requires.0, below i, room_after (λ t. named_part l s.args.mask i.loop-left.p (size l) t (below i) (sym (bit i) ∙ c.if-left-eq1.true)) s.requires.2 h)
 
 overflow_add-p : tie.Need-overflow_add-p invariant-loop-left decreases-loop-left
-overflow_add-p c = let s = entry c.before in omega (arith, below c.before, (accepted_ok s.args.file.now s.pre.0).few)
+overflow_add-p c = let s = entry c.before in omega (arith, below c.before, (accepted_ok s.args.file.now s.requires.0).few)
 
 loop-left-smaller : tie.Need-loop-left-smaller invariant-loop-left decreases-loop-left
 loop-left-smaller c = omega arith
@@ -58,22 +58,22 @@ loop-left-preserved c =
     let i = c.before in
     let s = entry i in
     let l = loop_of s.args.file.now in
-    let p = i.before.loop-left.p in
-    let h = i.before.loop-left.invariant in (
+    let p = i.loop-left.p in
+    let h = i.loop-left.invariant in (
       omega (arith, below i),
       ap (λ (n : ℕ). n / 2) h.1 ∙ shr-shr s.args.mask p 1,
       ⊎_elim
           (λ w. rw w.3 (moved_more (λ t. named_set l s.args.mask p t (sym (bit i) ∙ w.0.taken)) h.2 w.2.ensures))
           (λ w. rw w.1 (moved_more {b = λ t. 0} (λ t. named_clear l s.args.mask p t (λ e. w.0.left (bit i ∙ e))) h.2 (moved_none h.2.whole (λ t. refl))))
-          c.if-left-eq1.branch,
+          c.if-left-eq1.branch-raw,
     )
 
 returns : tie.Need-returns invariant-loop-left decreases-loop-left
 returns c =
     let s = c.before.before.before in
-    let h = c.before.loop-left.invariant in
+    let h = c.loop-left.invariant in
     let l = loop_of s.args.file.now in
-    moved_as (λ t. named_end l s.args.mask c.before.loop-left.p (size l) t h.0 (omega (arith, h.1, c.loop-left-test.false))) h.2
+    moved_as (λ t. named_end l s.args.mask c.loop-left.p (size l) t h.0 (omega (arith, h.1, c.loop-left-test.false))) h.2
 
 pub count_gone_spec : {M : Type 1} → statement M
 count_gone_spec =

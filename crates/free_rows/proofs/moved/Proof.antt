@@ -4,7 +4,7 @@ use Rattle.free_rows.proofs.moved.Statement.{statement}
 use Rattle.free_rows.proofs.moved.Tie as tie
 
 overflow_sub-result : tie.Need-overflow_sub-result
-overflow_sub-result c = rw c.if-comes.true at c.before.requires.0
+overflow_sub-result c = rw c.if-comes.true at c.requires.0
 
 overflow_add-result : tie.Need-overflow_add-result
 overflow_add-result c = omega arith

@@ -4,8 +4,8 @@ use borrow.Author.Rules.{rules}
 use lib.Seq.{length-take-le}
 use Rattle.board.specs.Moves.{reply_of}
 use Rattle.free_rows.proofs.Calls.{other_done, else_free, placed_room, placed_free}
-use Rattle.free_rows.proofs.place-placed.Statement.{statement}
-use Rattle.free_rows.proofs.place-placed.Tie as tie
+use Rattle.free_rows.proofs.place.Statement.{statement}
+use Rattle.free_rows.proofs.place.Tie as tie
 
 place-placed-requires : tie.Need-place-placed-requires
 place-placed-requires c κs = search rules
@@ -21,29 +21,29 @@ returns-in_default c =
     let m = c.before.before.before in
     let s = m.before.before.before.before.before in
     let d = m.place-placed.ensures in
-    (d, else_free d s.args.free.now s.requires.2 (other_done m.place-placed.result c.match.keys2))
+    (d, else_free d s.args.free.now s.requires.2 (other_done m.place-placed.result c.in_default.keys2))
 
 slice_bounds-count-end : tie.Need-slice_bounds-count-end
-slice_bounds-count-end c = let s = c.before.before.before.before.before.before.before.before.before.before in sym (length-take-le s.args.length- s.args.store.now s.requires.0)
+slice_bounds-count-end c = let s = c.before.before.before.before.before.before.before.before in sym (length-take-le s.args.length- s.args.store.now s.requires.0)
 
 count-requires : tie.Need-count-requires
 count-requires c κs =
-    let e = c.before.before in
+    let e = c.before in
     let m = e.before.before.before.before in
-    let s = m.before.before.before.before.before in
-    let d = m.place-placed.ensures in
-    placed_room s.requires.1 d (ap reply_of e.enum_told-1.given.1) s.args.free.now s.requires.2
+    let s = m.before.before.before.before in
+    let d = m.place.ensures in
+    placed_room s.requires.1 d (ap reply_of e.enum_told.given.1) s.args.free.now s.requires.2
 
 shape_of-rows : tie.Need-shape_of-rows
 shape_of-rows c = search rules
 
 returns : tie.Need-returns
 returns c =
-    let e = c.before.before.before in
+    let e = c.before.before in
     let m = e.before.before.before.before in
-    let s = m.before.before.before.before.before in
-    let d = m.place-placed.ensures in
-    (d, placed_free s.requires.1 d (ap reply_of e.enum_told-1.given.1) s.args.free.now s.requires.2 _ c.count.ensures)
+    let s = m.before.before.before.before in
+    let d = m.place.ensures in
+    (d, placed_free s.requires.1 d (ap reply_of e.enum_told.given.1) s.args.free.now s.requires.2 _ c.count.ensures)
 
 pub place_spec : {M : Type 1} → statement M
 place_spec = tie.close (tie.spec place-placed-requires enum_told-1 shape_of-rows-in_default returns-in_default slice_bounds-count-end count-requires shape_of-rows returns)

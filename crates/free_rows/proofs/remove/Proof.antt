@@ -4,8 +4,8 @@ use borrow.Author.Rules.{rules}
 use lib.Seq.{length-take-le}
 use Rattle.board.specs.Moves.{reply_of}
 use Rattle.free_rows.proofs.Calls.{other_done, else_free, removed_room, removed_free}
-use Rattle.free_rows.proofs.remove-removed.Statement.{statement}
-use Rattle.free_rows.proofs.remove-removed.Tie as tie
+use Rattle.free_rows.proofs.remove.Statement.{statement}
+use Rattle.free_rows.proofs.remove.Tie as tie
 
 remove-removed-requires : tie.Need-remove-removed-requires
 remove-removed-requires c κs = search rules
@@ -20,29 +20,29 @@ returns-in_default : tie.Need-returns-in_default
 returns-in_default c =
     let m = c.before.before.before in
     let s = m.before.before.before.before.before in
-    (m.remove-removed.ensures, else_free (m.remove-removed.ensures 4096 s.requires.1) s.args.free.now s.requires.2 (other_done m.remove-removed.result c.match.keys2))
+    (m.remove-removed.ensures, else_free (m.remove-removed.ensures 4096 s.requires.1) s.args.free.now s.requires.2 (other_done m.remove-removed.result c.in_default.keys2))
 
 slice_bounds-count-end : tie.Need-slice_bounds-count-end
-slice_bounds-count-end c = let s = c.before.before.before.before.before.before.before.before.before.before in sym (length-take-le s.args.length- s.args.store.now s.requires.0)
+slice_bounds-count-end c = let s = c.before.before.before.before.before.before.before.before in sym (length-take-le s.args.length- s.args.store.now s.requires.0)
 
 count-requires : tie.Need-count-requires
 count-requires c κs =
-    let e = c.before.before in
+    let e = c.before in
     let m = e.before.before.before.before in
-    let s = m.before.before.before.before.before in
-    let d = m.remove-removed.ensures 4096 s.requires.1 in
-    removed_room s.requires.1 d (ap reply_of e.enum_told-1.given.1) s.args.free.now s.requires.2
+    let s = m.before.before.before.before in
+    let d = m.remove.ensures 4096 s.requires.1 in
+    removed_room s.requires.1 d (ap reply_of e.enum_told.given.1) s.args.free.now s.requires.2
 
 shape_of-rows : tie.Need-shape_of-rows
 shape_of-rows c = search rules
 
 returns : tie.Need-returns
 returns c =
-    let e = c.before.before.before in
+    let e = c.before.before in
     let m = e.before.before.before.before in
-    let s = m.before.before.before.before.before in (
-      m.remove-removed.ensures,
-      removed_free s.requires.1 (m.remove-removed.ensures 4096 s.requires.1) (ap reply_of e.enum_told-1.given.1) s.args.free.now s.requires.2 _ c.count.ensures,
+    let s = m.before.before.before.before in (
+      m.remove.ensures,
+      removed_free s.requires.1 (m.remove.ensures 4096 s.requires.1) (ap reply_of e.enum_told.given.1) s.args.free.now s.requires.2 _ c.count.ensures,
     )
 
 pub remove_spec : {M : Type 1} → statement M

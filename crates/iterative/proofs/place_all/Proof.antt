@@ -14,7 +14,7 @@ abbrev decreases-loop-ii : tie.decreases-loop-ii
 decreases-loop-ii file n least cap horizon starts₀ rows₀ last tries₀ ii₀ starts rows tries ii = suc last - ii
 
 last_of-last-requires : tie.Need-last_of-last-requires invariant-loop-ii decreases-loop-ii
-last_of-last-requires c κs = c.before.before.requires.far
+last_of-last-requires c κs = c.requires.far
 
 loop-ii-init : tie.Need-loop-ii-init invariant-loop-ii decreases-loop-ii
 loop-ii-init c = (omega arith, untouched _ _)
@@ -22,12 +22,12 @@ loop-ii-init c = (omega arith, untouched _ _)
 attempt_all-requires : tie.Need-attempt_all-requires invariant-loop-ii decreases-loop-ii
 attempt_all-requires c κs =
     let a = c.before.before.before in
-    ready_at a.loop-ii.ii a.before.before.before.before.requires a.loop-ii.invariant.0 (omega (arith, a.before.last_of-last.ensures)) a.loop-ii.invariant.1
+    ready_at a.loop-ii.ii a.requires a.loop-ii.invariant.0 (omega (arith, a.last_of-last.ensures)) a.loop-ii.invariant.1
 
 -- after the attempts at an interval
 left_by : (c : tie.After-attempt_all invariant-loop-ii decreases-loop-ii) → let s = c.before.before.before.before.before.before.before.before.args in
-    Untouched s.starts.now s.rows-1.now c.attempt_all.new.1.1.1.1.1.0 c.attempt_all.new.1.1.1.1.1.1.0
-left_by c = untouched_again c.before.before.before.before.loop-ii.invariant.1 c.attempt_all.ensures.untouched
+    Untouched s.starts.now s.rows.now c.attempt-all.new.1.1.1.1.1.0 c.attempt-all.new.1.1.1.1.1.1.0
+left_by c = untouched_again c.before.before.before.before.loop.invariant.1 c.attempt-all.ensures.untouched
 
 shape_of-rows-then-attempt_all : tie.Need-shape_of-rows-then-attempt_all invariant-loop-ii decreases-loop-ii
 shape_of-rows-then-attempt_all c = (left_by c.before.before.before).rows_length
@@ -37,12 +37,12 @@ returns-then-attempt_all c =
     let w = c.before.before.before in
     let a = w.before.before.before.before in
     record {
-      found = λ d. record { low = omega (arith, a.loop-ii.invariant.0); high = omega (arith, a.before.last_of-last.ensures, w.before.before.before.loop-ii-test.true); schedule = w.attempt_all.ensures.found c.if-attempt_all.true };
+      found = λ d. record { low = omega (arith, a.loop-ii.invariant.0); high = omega (arith, a.last_of-last.ensures, w.loop-ii-test.true); schedule = w.attempt_all.ensures.found c.if-attempt_all.true };
       untouched = left_by w;
     }
 
 overflow_add-ii : tie.Need-overflow_add-ii invariant-loop-ii decreases-loop-ii
-overflow_add-ii c = let a = c.before.before.before.before.before.before.before in omega (arith, a.before.last_of-last.ensures, a.before.before.before.before.requires.capped)
+overflow_add-ii c = let a = c.before.before.before.before.before.before.before in omega (arith, a.last_of-last.ensures, a.requires.capped)
 
 loop-ii-smaller : tie.Need-loop-ii-smaller invariant-loop-ii decreases-loop-ii
 loop-ii-smaller c = omega arith
@@ -51,10 +51,10 @@ loop-ii-preserved : tie.Need-loop-ii-preserved invariant-loop-ii decreases-loop-
 loop-ii-preserved c = (omega arith, left_by c.before.before.before)
 
 shape_of-rows : tie.Need-shape_of-rows invariant-loop-ii decreases-loop-ii
-shape_of-rows c = c.before.loop-ii.invariant.1.rows_length
+shape_of-rows c = c.loop-ii.invariant.1.rows_length
 
 returns : tie.Need-returns invariant-loop-ii decreases-loop-ii
-returns c = record { found = λ d. absurd (d refl); untouched = c.before.loop-ii.invariant.1 }
+returns c = record { found = λ d. absurd (d refl); untouched = c.loop-ii.invariant.1 }
 
 pub place_all_spec : {M : Type 1} → statement M
 place_all_spec =

@@ -8,7 +8,7 @@ use Rattle.loop_access.proofs.delay.Statement.{statement}
 use Rattle.loop_access.proofs.delay.Tie as tie
 
 dep_start-requires : tie.Need-dep_start-requires
-dep_start-requires c κs = c.before.requires
+dep_start-requires c κs = c.requires
 
 overflow_add-dep_start : tie.Need-overflow_add-dep_start
 overflow_add-dep_start c = omega arith
@@ -23,7 +23,7 @@ returns : tie.Need-returns
 returns c =
     let s = c.before.before.before.before in
     to_z-of_z w32 c.signed.result (record { sfits = c.signed.type_inv })
-    ∙ rw ((dep_read s.args.file.now s.args.e s.requires).is, ← c.before.before.dep_start.ensures.0) c.signed.ensures
+    ∙ rw ((dep_read s.args.file.now s.args.e s.requires).is, ← c.dep_start.ensures.0) c.signed.ensures
 
 pub delay_spec : {M : Type 1} → statement M
 delay_spec =

@@ -5,10 +5,10 @@ use Rattle.loop_access.proofs.dep_count.Statement.{statement}
 use Rattle.loop_access.proofs.dep_count.Tie as tie
 
 word-requires : tie.Need-word-requires
-word-requires c κs = omega (arith, layout c.before.args.file.now c.before.requires)
+word-requires c κs = omega (arith, layout c.args.file.now c.requires)
 
 returns : tie.Need-returns
-returns c = omega (arith, deps_is c.before.before.args.file.now)
+returns c = omega (arith, deps_is c.args.file.now)
 
 pub dep_count_spec : {M : Type 1} → statement M
 dep_count_spec = tie.close (tie.spec word-requires returns)

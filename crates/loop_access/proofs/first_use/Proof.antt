@@ -22,13 +22,13 @@ unfolding first_use
 loop-o-init c = omega arith
 
 use_count-sum-requires : tie.Need-use_count-sum-requires invariant-loop-o decreases-loop-o
-use_count-sum-requires c κs = (c.before.before.before.requires.0, omega arith)
+use_count-sum-requires c κs = (c.requires.0, omega arith)
 
 -- a turn adds the number of uses of operation o
-added : (c : tie.After-use_count-sum invariant-loop-o decreases-loop-o) → c.use_count-sum.result ≡ uses_of c.before.before.before.before.args.file.now c.before.before.loop-o.o
+added : (c : tie.After-use_count-sum invariant-loop-o decreases-loop-o) → c.use_count-sum.result ≡ uses_of c.args.file.now c.loop-o.o
 added c =
     let s = c.before.before.before.before in
-    c.use_count-sum.ensures ∙ uses_read s.args.file.now c.before.before.loop-o.o (use_count-sum-requires c.before s.lifetimes)
+    c.use_count-sum.ensures ∙ uses_read s.args.file.now c.loop-o.o (use_count-sum-requires c.before s.lifetimes)
 
 -- the uses of operation o stand before the end of all, which lies inside the file
 overflow_add-sum : tie.Need-overflow_add-sum invariant-loop-o decreases-loop-o
@@ -36,7 +36,7 @@ overflow_add-sum c =
     let s = c.before.before.before.before in
     let f = s.args.file.now in
     let n : size (loop_of f) ≡ op_count f = size_is f in
-    omega (arith, added c, layout f s.requires.0, first_use_le f c.before.before.loop-o.o (op_count f) (omega arith))
+    omega (arith, added c, layout f s.requires.0, first_use_le f c.loop-o.o (op_count f) (omega arith))
 
 overflow_add-o : tie.Need-overflow_add-o invariant-loop-o decreases-loop-o
 overflow_add-o c = omega arith
@@ -52,8 +52,8 @@ returns : tie.Need-returns invariant-loop-o decreases-loop-o
 returns c =
     let s = c.before.before.before in
     let f = s.args.file.now in
-    let e : c.before.loop-o.o ≡ s.args.op = omega arith in
-    rw (first_use_is f s.args.op (omega (arith, size_is f)), ← e) c.before.loop-o.invariant.1
+    let e : c.loop-o.o ≡ s.args.op = omega arith in
+    rw (first_use_is f s.args.op (omega (arith, size_is f)), ← e) c.loop-o.invariant.1
 
 pub first_use_spec : {M : Type 1} → statement M
 first_use_spec =

@@ -8,7 +8,7 @@ known : (c : tie.Start) → UseRead c.args.file.now c.args.u
 known c = use_read c.args.file.now c.args.u c.requires
 
 uses_start-requires : tie.Need-uses_start-requires
-uses_start-requires c κs = c.before.requires.0
+uses_start-requires c κs = c.requires.0
 
 overflow_mul-u : tie.Need-overflow_mul-u
 overflow_mul-u c = omega (arith, known c.before.before)
@@ -23,7 +23,7 @@ wide-requires : tie.Need-wide-requires
 wide-requires c κs = tt
 
 returns : tie.Need-returns
-returns c = rw ((known c.before.before.before.before).is, ← c.before.before.uses_start.ensures) c.wide.ensures.0
+returns c = rw ((known c.before.before.before.before).is, ← c.uses_start.ensures) c.wide.ensures.0
 
 pub slot_spec : {M : Type 1} → statement M
 slot_spec =

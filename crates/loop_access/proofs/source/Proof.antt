@@ -5,7 +5,7 @@ use Rattle.loop_access.proofs.source.Statement.{statement}
 use Rattle.loop_access.proofs.source.Tie as tie
 
 dep_start-requires : tie.Need-dep_start-requires
-dep_start-requires c κs = c.before.requires
+dep_start-requires c κs = c.requires
 
 bounds-file-dep_start : tie.Need-bounds-file-dep_start
 bounds-file-dep_start c = omega arith
@@ -16,7 +16,7 @@ wide-requires c κs = tt
 returns : tie.Need-returns
 returns c =
     let s = c.before.before.before.before in
-    rw ((dep_read s.args.file.now s.args.e s.requires).is, ← c.before.before.dep_start.ensures.0) c.wide.ensures.0
+    rw ((dep_read s.args.file.now s.args.e s.requires).is, ← c.dep_start.ensures.0) c.wide.ensures.0
 
 pub source_spec : {M : Type 1} → statement M
 source_spec = tie.close (tie.spec dep_start-requires bounds-file-dep_start wide-requires returns)

@@ -5,7 +5,7 @@ use Rattle.loop_access.proofs.target.Statement.{statement}
 use Rattle.loop_access.proofs.target.Tie as tie
 
 dep_start-requires : tie.Need-dep_start-requires
-dep_start-requires c κs = c.before.requires
+dep_start-requires c κs = c.requires
 
 overflow_add-dep_start : tie.Need-overflow_add-dep_start
 overflow_add-dep_start c = omega arith
@@ -19,7 +19,7 @@ wide-requires c κs = tt
 returns : tie.Need-returns
 returns c =
     let s = c.before.before.before.before in
-    rw ((dep_read s.args.file.now s.args.e s.requires).is, ← c.before.before.dep_start.ensures.0) c.wide.ensures.0
+    rw ((dep_read s.args.file.now s.args.e s.requires).is, ← c.dep_start.ensures.0) c.wide.ensures.0
 
 pub target_spec : {M : Type 1} → statement M
 target_spec =

@@ -9,12 +9,12 @@ use Rattle.loop_access.proofs.use_total.Statement.{statement}
 use Rattle.loop_access.proofs.use_total.Tie as tie
 
 word-requires : tie.Need-word-requires
-word-requires c κs = omega (arith, layout c.before.args.file.now c.before.requires)
+word-requires c κs = omega (arith, layout c.args.file.now c.requires)
 
 returns : tie.Need-returns
 returns c =
-    let f = c.before.before.args.file.now in
-    omega (arith, layout f c.before.before.requires, ap length (all_uses_is f) ∙ length_tabulate (use_in f) 0 (first_use f (op_count f)))
+    let f = c.args.file.now in
+    omega (arith, layout f c.requires, ap length (all_uses_is f) ∙ length_tabulate (use_in f) 0 (first_use f (op_count f)))
 
 pub use_total_spec : {M : Type 1} → statement M
 use_total_spec = tie.close (tie.spec word-requires returns)

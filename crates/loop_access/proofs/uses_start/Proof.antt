@@ -5,7 +5,7 @@ use Rattle.loop_access.proofs.uses_start.Statement.{statement}
 use Rattle.loop_access.proofs.uses_start.Tie as tie
 
 word-requires : tie.Need-word-requires
-word-requires c κs = omega (arith, layout c.before.args.file.now c.before.requires)
+word-requires c κs = omega (arith, layout c.args.file.now c.requires)
 
 overflow_add-result : tie.Need-overflow_add-result
 overflow_add-result c = omega arith

@@ -20,21 +20,21 @@ enum_told-1 c = omega arith
 slice_bounds-result-count : tie.Need-slice_bounds-result-count
 slice_bounds-result-count c = omega arith
 
-slice_bounds-result-start : tie.Need-slice_bounds-result-start
+slice_bounds-result-start : tie.Need-slice-bounds-result-start
 slice_bounds-result-start c = omega arith
 
-slice_bounds-result-end : tie.Need-slice_bounds-result-end
+slice_bounds-result-end : tie.Need-slice-bounds-result-end
 slice_bounds-result-end c = omega arith
 
 returns-in_default : tie.Need-returns-in_default
-returns-in_default c = sym (none_of c.before.before.before.before.before.args.file.now deps (deps_at c.before.before.before.before.before.args.file.now) c.before.enum_told-1.given.1 c.before.before.before.read-r.ensures)
+returns-in_default c = sym (none_of c.args.file.now deps (deps_at c.args.file.now) c.in_default.is c.read-r.ensures)
 
 -- where the file is accepted: the file, and its lengths
 abbrev file : tie.In-Accepted → List ℕ
-file c = c.before.before.before.before.before.args.file.now
+file c = c.args.file.now
 
-spanned : (c : tie.In-Accepted) → Spans (file c) c.before.r-1.given.0.0 c.before.r-1.given.0.1.0 c.before.r-1.given.0.1.1.0
-spanned c = spans (file c) c.before.r-1.given.1 c.before.before.before.read-r.ensures
+spanned : (c : tie.In-Accepted) → Spans (file c) c.in-Accepted.n c.in-Accepted.u c.in-Accepted.m
+spanned c = spans (file c) c.in-Accepted.is c.read-r.ensures
 
 overflow_mul-start : tie.Need-overflow_mul-start
 overflow_mul-start c = omega (arith, spanned c)
@@ -57,17 +57,17 @@ overflow_add-end c = omega (arith, spanned c)
 slice_bounds-result-count-2 : tie.Need-slice_bounds-result-count-2
 slice_bounds-result-count-2 c = omega arith
 
-slice_bounds-result-start-2 : tie.Need-slice_bounds-result-start-2
+slice_bounds-result-start-2 : tie.Need-slice-bounds-result-start-2
 slice_bounds-result-start-2 c = omega arith
 
-slice_bounds-result-end-2 : tie.Need-slice_bounds-result-end-2
+slice_bounds-result-end-2 : tie.Need-slice-bounds-result-end-2
 slice_bounds-result-end-2 c = omega (arith, spanned c)
 
 returns : tie.Need-returns
 returns c =
     let b = c.before in
-    let first : ℕ = 26 + 2 * b.before.r-1.given.0.0 + 2 * b.before.r-1.given.0.1.0 in
-    let end : ℕ = 26 + 2 * b.before.r-1.given.0.0 + 2 * b.before.r-1.given.0.1.0 + 4 * b.before.r-1.given.0.1.1.0 in
+    let first : ℕ = 26 + 2 * b.in-Accepted.n + 2 * b.in-Accepted.u in
+    let end : ℕ = 26 + 2 * b.in-Accepted.n + 2 * b.in-Accepted.u + 4 * b.in-Accepted.m in
     part_of (file b) deps (deps_at (file b)) first end (spanned b).file (omega (arith, spanned b)) (omega (arith, spanned b))
 
 pub deps_body_spec : {M : Type 1} → statement M

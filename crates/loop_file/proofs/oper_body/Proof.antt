@@ -20,21 +20,21 @@ enum_told-1 c = omega arith
 slice_bounds-result-count : tie.Need-slice_bounds-result-count
 slice_bounds-result-count c = omega arith
 
-slice_bounds-result-start : tie.Need-slice_bounds-result-start
+slice_bounds-result-start : tie.Need-slice-bounds-result-start
 slice_bounds-result-start c = omega arith
 
-slice_bounds-result-end : tie.Need-slice_bounds-result-end
+slice_bounds-result-end : tie.Need-slice-bounds-result-end
 slice_bounds-result-end c = omega arith
 
 returns-in_default : tie.Need-returns-in_default
-returns-in_default c = sym (none_of c.before.before.before.before.before.args.file.now oper oper_at c.before.enum_told-1.given.1 c.before.before.before.read-r.ensures)
+returns-in_default c = sym (none_of c.args.file.now oper oper_at c.in_default.is c.read-r.ensures)
 
 -- where the file is accepted: the file, and its lengths
 abbrev file : tie.In-Accepted → List ℕ
-file c = c.before.before.before.before.before.args.file.now
+file c = c.args.file.now
 
-spanned : (c : tie.In-Accepted) → Spans (file c) c.before.r-1.given.0.0 c.before.r-1.given.0.1.0 c.before.r-1.given.0.1.1.0
-spanned c = spans (file c) c.before.r-1.given.1 c.before.before.before.read-r.ensures
+spanned : (c : tie.In-Accepted) → Spans (file c) c.in-Accepted.n c.in-Accepted.field-1 c.in-Accepted.field-2
+spanned c = spans (file c) c.in-Accepted.is c.read-r.ensures
 
 overflow_mul-end : tie.Need-overflow_mul-end
 overflow_mul-end c = omega (arith, spanned c)
@@ -45,17 +45,17 @@ overflow_add-end c = omega (arith, spanned c)
 slice_bounds-result-count-2 : tie.Need-slice_bounds-result-count-2
 slice_bounds-result-count-2 c = omega arith
 
-slice_bounds-result-start-2 : tie.Need-slice_bounds-result-start-2
+slice_bounds-result-start-2 : tie.Need-slice-bounds-result-start-2
 slice_bounds-result-start-2 c = omega arith
 
-slice_bounds-result-end-2 : tie.Need-slice_bounds-result-end-2
+slice_bounds-result-end-2 : tie.Need-slice-bounds-result-end-2
 slice_bounds-result-end-2 c = omega (arith, spanned c)
 
 returns : tie.Need-returns
 returns c =
     let b = c.before in
     let first : ℕ = 26 in
-    let end : ℕ = 26 + 2 * b.before.r-1.given.0.0 in
+    let end : ℕ = 26 + 2 * b.in-Accepted.n in
     part_of (file b) oper oper_at first end (spanned b).file (refl) (omega (arith, spanned b))
 
 pub oper_body_spec : {M : Type 1} → statement M

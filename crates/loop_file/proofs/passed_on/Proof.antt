@@ -15,7 +15,7 @@ returns-in-Fine : tie.Need-returns-in-Fine
 returns-in-Fine c = search rules
 
 returns-in-Refused : tie.Need-returns-in-Refused
-returns-in-Refused c = sym (ap as_reading c.before.p-1.given.1)
+returns-in-Refused c = sym (ap as_reading c.in-Refused.is)
 
 pub passed_on_spec : {M : Type 1} → statement M
 passed_on_spec = tie.close (tie.spec enum_told-1 enum_known-p returns-in-Fine returns-in-Refused)

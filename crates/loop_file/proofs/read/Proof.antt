@@ -43,21 +43,21 @@ passed_on-requires c κs = omega arith
 
 -- the file
 abbrev file : tie.After-head-first → List ℕ
-file c = c.before.before.args.file.now
+file c = c.args.file.now
 
 returns-in_default : tie.Need-returns-in_default
 returns-in_default c =
-    let e = c.before.enum_told-in_default-1.given.1 in
-    let h = c.before.before.before in
+    let e = c.in_default.is in
+    let h = c.before.before in
     passed (file h) e c.passed_on.ensures (head_refused (file h) _ (refused_some 0 h.head-first.ensures (ap part_of e)))
 
 -- ---- once the head is right
 
 abbrev head_of : tie.In-Fine → tie.After-head-first
-head_of c = c.before.before
+head_of c = c.before
 
 head_passed : (c : tie.In-Fine) → first_refusal (length_checks (file (head_of c)) ++ head_checks (file (head_of c))) ≡ none
-head_passed c = fine_none 0 (head_of c).head-first.ensures (ap part_of c.enum_told-1.given.1)
+head_passed c = fine_none 0 (head_of c).head-first.ensures (ap part_of c.in-Fine.is)
 
 contents-second-requires : tie.Need-contents-second-requires
 contents-second-requires c κs = long (file (head_of c)) (head_passed c)
@@ -73,21 +73,21 @@ passed_on-requires-in_default-second c κs = omega arith
 
 returns-in_default-second : tie.Need-returns-in_default-second
 returns-in_default-second c =
-    let e = c.before.enum_told-in_default-second-1.given.1 in
-    let k = c.before.before.before in
+    let e = c.in_default-second.is in
+    let k = c.before.before in
     let f = file (head_of k.before) in
     passed f e c.passed_on-in_default-second.ensures (contents_refused f _ (head_passed k.before) (refused_some 0 k.contents-second.ensures (ap part_of e)))
 
 -- ---- once the contents are right
 
 abbrev before : tie.In-Fine-second → tie.In-Fine
-before c = c.before.before.before
+before c = c.before.before
 
 abbrev file_of : tie.In-Fine-second → List ℕ
 file_of c = file (head_of (before c))
 
 contents_passed : (c : tie.In-Fine-second) → first_refusal (contents_checks (file_of c)) ≡ none
-contents_passed c = fine_none 0 c.before.before.contents-second.ensures (ap part_of c.enum_told-in-Fine-second-1.given.1)
+contents_passed c = fine_none 0 c.contents-second.ensures (ap part_of c.in-Fine-second.is)
 
 bodies-third-requires : tie.Need-bodies-third-requires
 bodies-third-requires c κs = (long (file_of c) (head_passed (before c)), contents_passed c)
@@ -103,15 +103,15 @@ passed_on-requires-in_default-third c κs = omega arith
 
 returns-in_default-third : tie.Need-returns-in_default-third
 returns-in_default-third c =
-    let e = c.before.enum_told-in_default-third-1.given.1 in
-    let b = c.before.before.before in
+    let e = c.in_default-third.is in
+    let b = c.before.before in
     let k = b.before in
     passed (file_of k) e c.passed_on-in_default-third.ensures (bodies_come (file_of k) (head_passed (before k)) (contents_passed k) ∙ refused_some _ b.bodies-third.ensures (ap part_of e))
 
 -- ---- once the bodies are right
 
 abbrev bodiesOf : tie.In-Fine-third → tie.After-bodies-third
-bodiesOf c = c.before.before.before
+bodiesOf c = c.before
 
 word-requires : tie.Need-word-requires
 word-requires c κs = omega (arith, long (file_of (bodiesOf c).before) (head_passed (before (bodiesOf c).before)))
@@ -124,9 +124,9 @@ returns c =
     let n = c.before.before in
     let b = bodiesOf n in
     let k = b.before in
-    let e = ap part_of n.before.third-1.given.1 in
+    let e = ap part_of n.in-Fine-third.is in
     let a : Accepted (file_of k) = bodies_come (file_of k) (head_passed (before k)) (contents_passed k) ∙ fine_none _ b.bodies-third.ensures e in
-    same (ap (λ (w : ℕ). w / 2) c.before.word.ensures.0) (fine_value (first_refusal (body_checks (file_of k))) b.bodies-third.ensures e) (ap (λ (w : ℕ). w / 4) c.word-2.ensures.0) ∙ sym (counted_accepted (file_of k) a)
+    same (ap (λ (w : ℕ). w / 2) c.word.ensures.0) (fine_value (first_refusal (body_checks (file_of k))) b.bodies-third.ensures e) (ap (λ (w : ℕ). w / 4) c.word-2.ensures.0) ∙ sym (counted_accepted (file_of k) a)
   where
     same : {a b c x y z : ℕ} → a ≡ x → b ≡ y → c ≡ z → ◌≡◌ {A = Answer Counts} (answered (record { ops = a; uses = b; deps = c })) (answered (record { ops = x; uses = y; deps = z }))
     same p q r = rw (p, q, r)

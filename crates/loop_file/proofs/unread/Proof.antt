@@ -12,10 +12,10 @@ enum_known-r : tie.Need-enum_known-r
 enum_known-r c = omega arith
 
 returns-in-Accepted : tie.Need-returns-in-Accepted
-returns-in-Accepted c = sym (ap as_unread c.enum_told-1.given.1)
+returns-in-Accepted c = sym (ap as_unread c.in-Accepted.is)
 
 returns-in-Refused : tie.Need-returns-in-Refused
-returns-in-Refused c = sym (ap as_unread c.before.r-1.given.1)
+returns-in-Refused c = sym (ap as_unread c.in-Refused.is)
 
 pub unread_spec : {M : Type 1} → statement M
 unread_spec = tie.close (tie.spec enum_told-1 enum_known-r returns-in-Accepted returns-in-Refused)

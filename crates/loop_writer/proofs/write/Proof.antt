@@ -37,16 +37,16 @@ passed_on-requires c κs = omega arith
 returns-in_default : tie.Need-returns-in_default
 returns-in_default c =
     let t = c.before in
-    let k = t.before.before in
+    let k = t.before in
     let s = k.before.before in
-    given_refuses (lists s) s.args.buffer-1.now k.given-given.ensures t.enum_told-in_default-1.given-given.1 c.passed_on.ensures
+    given_refuses (lists s) s.args.buffer.now k.given-given.ensures t.in_default.is c.passed_on.ensures
 
 -- they pass
 abbrev start : tie.In-Fine → tie.Start
-start c = c.before.before.before.before
+start c = c.before.before.before
 
 right : (c : tie.In-Fine) → first_refusal (given_checks (lists (start c))) ≡ none
-right c = fine_passes (given_checks (lists (start c))) c.enum_told-1.given-given.1 c.before.before.given-given.ensures
+right c = fine_passes (given_checks (lists (start c))) c.in-Fine.is c.given-given.ensures
 
 -- so the file is short
 short : (c : tie.In-Fine) → total (lists (start c)) ≤ 1690
@@ -78,18 +78,18 @@ passed_on-requires-in_default-room c κs = omega arith
 returns-in_default-room : tie.Need-returns-in_default-room
 returns-in_default-room c =
     let t = c.before in
-    let k = t.before.before in
+    let k = t.before in
     let g = k.before in
-    room_refuses (lists (start g)) (start g).args.buffer-1.now (right g) k.lent-room.ensures t.enum_told-in_default-room-1.given-given.1 c.passed_on-in_default-room.ensures
+    room_refuses (lists (start g)) (start g).args.buffer.now (right g) k.lent-room.ensures t.in_default-room.is c.passed_on-in_default-room.ensures
 
 -- there is room
 abbrev checked : tie.In-Fine-room → tie.In-Fine
-checked c = c.before.before.before
+checked c = c.before.before
 
-room : (c : tie.In-Fine-room) → let s = start (checked c) in total (lists s) ≤ length s.args.buffer-1.now
+room : (c : tie.In-Fine-room) → let s = start (checked c) in total (lists s) ≤ length s.args.buffer.now
 room c =
     let s = start (checked c) in
-    lent_fine (total (lists s)) (length s.args.buffer-1.now) c.before.before.lent-room.ensures c.enum_told-in-Fine-room-1.given-given.1
+    lent_fine (total (lists s)) (length s.args.buffer.now) c.before.before.lent.ensures c.enum-told3.given.1
 
 -- ---- the bytes
 
@@ -104,7 +104,7 @@ module _ (c : tie.After-head) where
   abbrev s : tie.Start
   s = start (checked fine)
 
-  headed : Stored s.args.buffer-1.now 0 (head_bytes (length s.args.ops.now) (length s.args.uses.now) (length s.args.deps.now)) c.head.new.0
+  headed : Stored s.args.buffer.now 0 (head_bytes (length s.args.ops.now) (length s.args.uses.now) (length s.args.deps.now)) c.head.new.0
   headed = is_stored (omega (arith, room fine)) c.head.ensures
 
 body-requires : tie.Need-body-requires
@@ -120,7 +120,7 @@ module _ (c : tie.After-body) where
   abbrev d : Fields
   d = lists (s h)
 
-  first : Stored (s h).args.buffer-1.now 0 (head_bytes (length d.ops) (length d.uses) (length d.deps) ++ map byte_of d.ops) c.body.new.0
+  first : Stored (s h).args.buffer.now 0 (head_bytes (length d.ops) (length d.uses) (length d.deps) ++ map byte_of d.ops) c.body.new.0
   first = next_stored 26 (map byte_of d.ops) (headed h) (omega arith) (omega (arith, room (fine h), length-map d.ops byte_of)) c.body.ensures
 
 overflow_add-ops : tie.Need-overflow_add-ops
@@ -136,7 +136,7 @@ module _ (c : tie.After-body-2) where
   abbrev b : tie.After-body
   b = c.before.before.before.before
 
-  second : Stored (s (h b)).args.buffer-1.now 0 (head_bytes (length (d b).ops) (length (d b).uses) (length (d b).deps) ++ map byte_of (d b).ops ++ map byte_of (d b).uses) c.body-2.new.0
+  second : Stored (s (h b)).args.buffer.now 0 (head_bytes (length (d b).ops) (length (d b).uses) (length (d b).deps) ++ map byte_of (d b).ops ++ map byte_of (d b).uses) c.body-2.new.0
   second =
       next_stored (26 + length (d b).ops) (map byte_of (d b).uses) (first b) (omega (arith, length-map (d b).ops byte_of))
       (omega (arith, room (fine (h b)), length-map (d b).ops byte_of, length-map (d b).uses byte_of)) c.body-2.ensures
@@ -161,7 +161,7 @@ module _ (c : tie.After-body-3) where
   apart : length (map byte_of (d (b u)).ops ++ map byte_of (d (b u)).uses) ≡ length (d (b u)).ops + length (d (b u)).uses
   apart = rw (length-append, length-map (d (b u)).ops byte_of, length-map (d (b u)).uses byte_of)
 
-  third : Stored (s (h (b u))).args.buffer-1.now 0 (bytes_of (d (b u))) c.body-3.new.0
+  third : Stored (s (h (b u))).args.buffer.now 0 (bytes_of (d (b u))) c.body-3.new.0
   third =
       next_stored (26 + length (d (b u)).ops + length (d (b u)).uses) (map byte_of (d (b u)).deps) (second u) (omega (arith, apart)) (omega (arith, apart, room (fine (h (b u))), length-map (d (b u)).deps byte_of))
       c.body-3.ensures
@@ -173,7 +173,7 @@ returns : tie.Need-returns
 returns c =
     let e = c.before.before in
     let t = fine (h (b (u e))) in
-    writes (lists (start (checked t))) (start (checked t)).args.buffer-1.now (right (checked t)) (room t) (third e)
+    writes (lists (start (checked t))) (start (checked t)).args.buffer.now (right (checked t)) (room t) (third e)
 
 pub write_spec : {M : Type 1} → statement M
 write_spec =

@@ -26,18 +26,18 @@ shape_of-buffer-in-Bytes c = omega arith
 
 returns-in-Bytes : tie.Need-returns-in-Bytes
 returns-in-Bytes c =
-    let m = c.before.before.before in
-    let w = m.before.before.before.before.write-written.ensures in
-    record { gives = told written_of w.says m.written-1.given.1 refl c.write_answer.ensures; buffer_is = w.leaves }
+    let m = c.before.before in
+    let w = m.write-written.ensures in
+    record { gives = told written_of w.says m.in-Bytes-2.is refl c.write_answer.ensures; buffer_is = w.leaves }
 
 shape_of-buffer-in-Refused : tie.Need-shape_of-buffer-in-Refused
 shape_of-buffer-in-Refused c = omega arith
 
 returns-in-Refused : tie.Need-returns-in-Refused
 returns-in-Refused c =
-    let m = c.before.before.before in
-    let w = m.before.before.before.before.write-written.ensures in
-    record { gives = told written_of w.says m.written-in-Refused-1.given.1 refl c.write_answer-in-Refused.ensures; buffer_is = w.leaves }
+    let m = c.before.before in
+    let w = m.write-written.ensures in
+    record { gives = told written_of w.says m.in-Refused-2.is refl c.write_answer-in-Refused.ensures; buffer_is = w.leaves }
 
 pub mw_write_spec : {M : Type 1} → statement M
 mw_write_spec =

@@ -18,10 +18,10 @@ write_answer-requires-in-Refused : tie.Need-write_answer-requires-in-Refused
 write_answer-requires-in-Refused c κs = omega arith
 
 returns-in-Fine : tie.Need-returns-in-Fine
-returns-in-Fine c = refusal_told c.before.before.enum_told-1.given.1 refl c.write_answer.ensures
+returns-in-Fine c = refusal_told c.in-Fine.is refl c.write_answer.ensures
 
 returns-in-Refused : tie.Need-returns-in-Refused
-returns-in-Refused c = refusal_told c.before.before.before.c-1.given.1 refl c.write_answer-in-Refused.ensures
+returns-in-Refused c = refusal_told c.in-Refused.is refl c.write_answer-in-Refused.ensures
 
 pub write_refusal_spec : {M : Type 1} → statement M
 write_refusal_spec = tie.close (tie.spec enum_told-1 write_answer-requires enum_known-c write_answer-requires-in-Refused returns-in-Fine returns-in-Refused)

@@ -11,11 +11,11 @@ use Rattle.planner.proofs.keep.Tie as tie
 
 write_list-requires : tie.Need-write_list-requires
 write_list-requires c κs =
-    let p = c.before.before.before.before.requires in
-    (p.room, omega (arith, p.is_size, p.wide, (accepted_ok c.before.before.before.before.args.file.now p.accepted).few))
+    let p = c.requires in
+    (p.room, omega (arith, p.is_size, p.wide, (accepted_ok c.args.file.now p.accepted).few))
 
 stage_count-requires : tie.Need-stage_count-requires
-stage_count-requires c κs = c.before.before.before.before.before.before.before.before.requires.accepted
+stage_count-requires c κs = c.requires.accepted
 
 shape_of-list : tie.Need-shape_of-list
 shape_of-list c = omega arith

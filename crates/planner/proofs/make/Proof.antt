@@ -1,7 +1,7 @@
 -- `make` meets its contract: a quick list at the larger bound is kept; else the exact search ends, and one of the laws of `Lists` says what that comes to. Assumes nothing.
 use mathlib.Core.Path.{◌≡◌, refl}
 use native.Mathlib.Omega.{arith}
-use Rattle.search-searched.specs.Answer.{Searches}
+use Rattle.search.specs.Answer.{Searches}
 use Rattle.planner.specs.Parts.{cap_below}
 use Rattle.planner.proofs.Lists.{asks, keepable, keeps_bound, search_found, search_ended, room_left, keeps_quick, not_refused}
 use Rattle.planner.proofs.make.Statement.{statement}
@@ -24,11 +24,11 @@ clear_rows-requires : tie.Need-clear_rows-requires
 clear_rows-requires c κs =
     let t = c.before.before.before.before in
     let s = start t in
-    omega (arith, s.pre.long, t.place_all-quick.ensures.untouched.rows_length)
+    omega (arith, s.requires.long, t.place_all-quick.ensures.untouched.rows_length)
 
 -- a quick list at the larger bound is there
-bound_there : (c : tie.Then-quick-least) → c.before.before.before.place_all-quick.result ≡ 0 → ⊥
-bound_there c z = let s = start c.before.before.before in omega (arith, c.if-quick-least.true, c.before.before.before.before.before.before.larger-least.ensures, s.pre.positive)
+bound_there : (c : tie.Then-quick-least) → c.place_all-quick.result ≡ 0 → ⊥
+bound_there c z = let s = start c.before.before.before in omega (arith, c.if-quick-least.true, c.larger-least.ensures, s.requires.positive)
 
 -- the bound that was worked out
 abbrev bounding : tie.After-place_all-quick → tie.After-larger-least
@@ -81,36 +81,36 @@ tried c = c.before.before.before.before.before.before.before
 -- the search was that of the intervals below
 searched_is : (c : tie.After-search-searched) → let t = tried c in
     let a = (start t).args in
-    Searches a.file.now (cap_below t.place_all-quick.result a.cap) a.horizon a.budget a.list-1.now t.place_all-quick.last.1.1.1.1.1.1.0 c.search-searched.result c.search-searched.new.1.1.1.1.0 c.search-searched.new.1.1.1.1.1.0
-searched_is c = rw c.before.before.before.below.ensures at c.search-searched.ensures
+    Searches a.file.now (cap_below t.place_all-quick.result a.cap) a.horizon a.budget a.list.now t.place_all-quick.last.1.1.1.1.1.1.0 c.search.result c.search.new.1.1.1.1.0 c.search.new.1.1.1.1.1.0
+searched_is c = rw c.before.before.before.below.ensures at c.search.ensures
 
 -- the quick list was not at the larger bound
 not_least : (c : tie.After-search-searched) → let t = tried c in t.place_all-quick.result ≡ (bounding t).larger-least.result → ⊥
-not_least c = c.before.before.before.before.if-quick-least.false
+not_least c = c.before.before.before.before.if1.false
 
 -- the search, from what it came to: a schedule; an end; a refusal
 abbrev found_from : tie.In-Found → tie.After-search-searched
-found_from c = c.before.before.before.before.before.before.before
+found_from c = c.before.before.before.before.before
 
 abbrev ended-from : tie.In-Ended → tie.After-search-searched
-ended-from c = c.before.before.before.before.before.before.before
+ended-from c = c.before.before.before.before.before
 
 abbrev refused-from : tie.In-Refused → tie.After-search-searched
-refused-from c = c.before.before.before.before.before.before.before
+refused-from c = c.before.before.before.before.before
 
 returns-then-quick-eq0 : tie.Need-returns-then-quick-eq0
 returns-then-quick-eq0 c =
     let m = c.before in
     let s = ended-from m in
     let t = tried s in
-    search_ended (start t).pre (bounding t).larger-least.ensures refl t.place_all-quick.ensures (not_least s) (searched_is s) m.before.searched-in-Ended-1.given.1 c.if-quick-eq0.true
+    search_ended (start t).requires (bounding t).larger-least.ensures refl t.place_all-quick.ensures (not_least s) (searched_is s) m.in-Ended.is c.if-quick-eq0.true
 
 keep-requires-in-Ended : tie.Need-keep-requires-in-Ended
 keep-requires-in-Ended c κs =
     let m = c.before.before.before in
     let s = ended-from m in
     let t = tried s in
-    room_left (start t).pre (bounding t).larger-least.ensures refl t.place_all-quick.ensures (not_least s) (searched_is s) m.before.searched-in-Ended-1.given.1
+    room_left (start t).requires (bounding t).larger-least.ensures refl t.place_all-quick.ensures (not_least s) (searched_is s) m.in-Ended.is
 
 enum_known-searched-in-Refused-1 : tie.Need-enum_known-searched-in-Refused-1
 enum_known-searched-in-Refused-1 c = omega arith
@@ -125,7 +125,7 @@ returns-in-Found : tie.Need-returns-in-Found
 returns-in-Found c =
     let s = found_from c in
     let t = tried s in
-    search_found (start t).pre (bounding t).larger-least.ensures refl t.place_all-quick.ensures (not_least s) (searched_is s) _ c.before.searched-1.given.1
+    search_found (start t).requires (bounding t).larger-least.ensures refl t.place_all-quick.ensures (not_least s) (searched_is s) _ c.in-Found.is
 
 shape_of-list-else-quick-eq0 : tie.Need-shape_of-list-else-quick-eq0
 shape_of-list-else-quick-eq0 c = omega arith
@@ -140,7 +140,7 @@ returns-else-quick-eq0 c =
     let m = e.before in
     let s = ended-from m in
     let t = tried s in
-    keeps_quick (start t).pre (bounding t).larger-least.ensures refl t.place_all-quick.ensures (not_least s) (searched_is s) m.before.searched-in-Ended-1.given.1 e.if-quick-eq0.false k.keep-in-Ended.ensures
+    keeps_quick (start t).requires (bounding t).larger-least.ensures refl t.place_all-quick.ensures (not_least s) (searched_is s) m.in-Ended.is e.if-quick-eq0.false k.keep-in-Ended.ensures
 
 shape_of-list-in-Refused : tie.Need-shape_of-list-in-Refused
 shape_of-list-in-Refused c = omega arith
@@ -152,7 +152,7 @@ returns-in-Refused : tie.Need-returns-in-Refused
 returns-in-Refused c =
     let s = refused-from c in
     let t = tried s in
-    not_refused (start t).pre (bounding t).larger-least.ensures refl t.place_all-quick.ensures (not_least s) (searched_is s) c.before.searched-in-Refused-1.given.1
+    not_refused (start t).requires (bounding t).larger-least.ensures refl t.place_all-quick.ensures (not_least s) (searched_is s) c.in-Refused.is
 
 pub make_spec : {M : Type 1} → statement M
 make_spec =

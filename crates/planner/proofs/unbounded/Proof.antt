@@ -15,7 +15,7 @@ returns-in-Found : tie.Need-returns-in-Found
 returns-in-Found c = search rules
 
 returns-in-Refused : tie.Need-returns-in-Refused
-returns-in-Refused c = sym (ap as_plan_unbounded c.before.b-1.given.1)
+returns-in-Refused c = sym (ap as_plan_unbounded c.in-Refused.is)
 
 pub unbounded_spec : {M : Type 1} → statement M
 unbounded_spec = tie.close (tie.spec enum_told-1 enum_known-b returns-in-Found returns-in-Refused)

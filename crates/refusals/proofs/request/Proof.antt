@@ -43,16 +43,16 @@ enum_told-in_default c = omega arith
 
 returns-in_default : tie.Need-returns-in_default
 returns-in_default c l e =
-    let k = c.before.before in
+    let k = c.before in
     let s = k.before in
-    refused_first (range 1 4096 s.args.cap ∷ []) (byHorizon s s.args.n) k.range-by_cap.ensures c.enum_told-in_default-1.given.1 ∙ whole s l e
+    refused_first (range 1 4096 s.args.cap ∷ []) (byHorizon s s.args.n) k.range-by_cap.ensures c.in_default.is ∙ whole s l e
 
 -- it passes
 abbrev at_cap : tie.In-Fine → tie.Start
-at_cap c = c.before.before.before
+at_cap c = c.before.before
 
 cap_passes : (c : tie.In-Fine) → let s = at_cap c in first_refusal (byCap s s.args.n) ≡ first_refusal (byHorizon s s.args.n)
-cap_passes c = let s = at_cap c in rest_decides (range 1 4096 s.args.cap ∷ []) (byHorizon s s.args.n) c.before.before.range-by_cap.ensures c.enum_told-1.given.1
+cap_passes c = let s = at_cap c in rest_decides (range 1 4096 s.args.cap ∷ []) (byHorizon s s.args.n) c.before.before.range.ensures c.enum_told.given.1
 
 -- ---- the horizon
 
@@ -67,19 +67,19 @@ enum_told-in_default-by_horizon c = omega arith
 
 returns-in_default-by_horizon : tie.Need-returns-in_default-by_horizon
 returns-in_default-by_horizon c l e =
-    let k = c.before.before in
+    let k = c.before in
     let s = at_cap k.before in
-    refused_first (range 2 4096 s.args.horizon ∷ []) (byBudget s s.args.n) k.range-by_horizon.ensures c.enum_told-in_default-by_horizon-1.given.1 ∙ sym (cap_passes k.before) ∙ whole s l e
+    refused_first (range 2 4096 s.args.horizon ∷ []) (byBudget s s.args.n) k.range-by_horizon.ensures c.in_default-by_horizon.is ∙ sym (cap_passes k.before) ∙ whole s l e
 
 -- it passes
 abbrev at-horizon : tie.In-Fine-by_horizon → tie.Start
-at-horizon c = at_cap c.before.before.before
+at-horizon c = at_cap c.before.before
 
 horizon_passes : (c : tie.In-Fine-by_horizon) → let s = at-horizon c in first_refusal (byCap s s.args.n) ≡ first_refusal (byBudget s s.args.n)
 horizon_passes c =
     let k = c.before.before in
     let s = at-horizon c in
-    cap_passes k.before ∙ rest_decides (range 2 4096 s.args.horizon ∷ []) (byBudget s s.args.n) k.range-by_horizon.ensures c.enum_told-in-Fine-by_horizon-1.given.1
+    cap_passes k.before ∙ rest_decides (range 2 4096 s.args.horizon ∷ []) (byBudget s s.args.n) k.range2.ensures c.enum-told3.given.1
 
 -- ---- the budget
 
@@ -94,19 +94,19 @@ enum_told-in_default-by_budget c = omega arith
 
 returns-in_default-by_budget : tie.Need-returns-in_default-by_budget
 returns-in_default-by_budget c l e =
-    let k = c.before.before in
+    let k = c.before in
     let s = at-horizon k.before in
-    refused_first (range 3 1000000 s.args.budget ∷ []) (byList s s.args.n) k.range-by_budget.ensures c.enum_told-in_default-by_budget-1.given.1 ∙ sym (horizon_passes k.before) ∙ whole s l e
+    refused_first (range 3 1000000 s.args.budget ∷ []) (byList s s.args.n) k.range-by_budget.ensures c.in_default-by_budget.is ∙ sym (horizon_passes k.before) ∙ whole s l e
 
 -- it passes
 abbrev at-budget : tie.In-Fine-by_budget → tie.Start
-at-budget c = at-horizon c.before.before.before
+at-budget c = at-horizon c.before.before
 
 budget_passes : (c : tie.In-Fine-by_budget) → let s = at-budget c in first_refusal (byCap s s.args.n) ≡ first_refusal (byList s s.args.n)
 budget_passes c =
     let k = c.before.before in
     let s = at-budget c in
-    horizon_passes k.before ∙ rest_decides (range 3 1000000 s.args.budget ∷ []) (byList s s.args.n) k.range-by_budget.ensures c.enum_told-in-Fine-by_budget-1.given.1
+    horizon_passes k.before ∙ rest_decides (range 3 1000000 s.args.budget ∷ []) (byList s s.args.n) k.range3.ensures c.enum-told5.given.1
 
 -- ---- the list, then the table
 
@@ -121,9 +121,9 @@ enum_told-in_default-by_list c = omega arith
 
 returns-in_default-by_list : tie.Need-returns-in_default-by_list
 returns-in_default-by_list c l e =
-    let k = c.before.before in
+    let k = c.before in
     let s = at-budget k.before in
-    refused_first (lent s.args.n s.args.list ∷ []) (lent 4096 s.args.rows ∷ []) k.lent-by_list.ensures c.enum_told-in_default-by_list-1.given.1 ∙ sym (budget_passes k.before) ∙ whole s l e
+    refused_first (lent s.args.n s.args.list ∷ []) (lent 4096 s.args.rows ∷ []) k.lent-by_list.ensures c.in_default-by_list.is ∙ sym (budget_passes k.before) ∙ whole s l e
 
 lent-requires : tie.Need-lent-requires
 lent-requires c κs = omega arith
@@ -131,10 +131,10 @@ lent-requires c κs = omega arith
 returns : tie.Need-returns
 returns c l e =
     let t = c.before in
-    let k = t.before.before in
+    let k = t.before in
     let s = at-budget k.before in
     c.lent.ensures
-    ∙ sym (budget_passes k.before ∙ rest_decides (lent s.args.n s.args.list ∷ []) (lent 4096 s.args.rows ∷ []) k.lent-by_list.ensures t.enum_told-in-Fine-by_list-1.given.1)
+    ∙ sym (budget_passes k.before ∙ rest_decides (lent s.args.n s.args.list ∷ []) (lent 4096 s.args.rows ∷ []) k.lent-by_list.ensures t.in-Fine-by_list.is)
     ∙ whole s l e
 
 pub request_spec : {M : Type 1} → statement M

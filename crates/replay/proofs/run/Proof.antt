@@ -29,7 +29,7 @@ bounds-t-0 c = omega arith
 loop-i-init : tie.Need-loop-i-init invariant-loop-i decreases-loop-i
 loop-i-init c =
     let s = c.before.before.before.before.before.before in
-    (omega arith, s.requires.0, made_none s.args.calls.now s.args.s s.args.rows-1.now s.args.replies-1.now, refl, refl)
+    (omega arith, s.requires.0, made_none s.args.calls.now s.args.s s.args.rows.now s.args.replies.now, refl, refl)
 
 overflow_mul-kind : tie.Need-overflow_mul-kind invariant-loop-i decreases-loop-i
 overflow_mul-kind c = omega arith
@@ -65,7 +65,7 @@ bounds-calls-i-in-loop-i-2 : tie.Need-bounds-calls-i-in-loop-i-2 invariant-loop-
 bounds-calls-i-in-loop-i-2 c = omega arith
 
 place_of-requires : tie.Need-place_of-requires invariant-loop-i decreases-loop-i
-place_of-requires c κs = c.before.before.before.before.before.loop-i.invariant.1.few
+place_of-requires c κs = c.loop-i.invariant.1.few
 
 offset_bounds-t-place_of : tie.Need-offset_bounds-t-place_of invariant-loop-i decreases-loop-i
 offset_bounds-t-place_of c = omega arith
@@ -90,7 +90,7 @@ second l = get_or (entry l).args.calls.now (3 * l.loop-i.i + 1) 0
 
 -- for a rollback, what stands at the place that is asked for is the copy of the checkpoint
 wanted_there : (c : tie.Joined-kind-eq6 invariant-loop-i decreases-loop-i) → kind (turn c) ≡ 6 → 1 ≤ second (turn c) → second (turn c) ≤ (turn c).loop-i.t.marks
-    → get_or (turn c).loop-i.t.saved (second (turn c) - 1) blank ≡ c.if-kind-eq6.wanted-1
+    → get_or (turn c).loop-i.t.saved (second (turn c) - 1) blank ≡ c.if-kind-eq6.wanted
 wanted_there c six low high =
     ⊎_elim
     (λ w.
@@ -99,13 +99,13 @@ wanted_there c six low high =
     ap (λ (k : ℕ). get_or saved k blank) (sym (e.1 low high))
     ∙ get_or_within saved w.1.result blank (record { starts = []; free = [] }) (omega (arith, e.0, (turn c).loop-i.invariant.1.saved_all)) ∙ sym w.3)
     (λ w. absurd (w.0.left six))
-    c.if-kind-eq6.branch
+    c.if-kind-eq6.branch-raw
 
 make-turn-requires : tie.Need-make-turn-requires invariant-loop-i decreases-loop-i
 make-turn-requires c κs =
     let p = c.before.before.before.before.before.before.before.before.before in
     let l = turn p in
-    record { saved = l.loop-i.t.saved; valid = l.loop-i.inv.1; wanted_is = wanted_there p }
+    record { saved = l.loop-i.t.saved; valid = l.loop-i.invariant.1; wanted_is = wanted_there p }
 
 offset_bounds-t-marks : tie.Need-offset_bounds-t-marks invariant-loop-i decreases-loop-i
 offset_bounds-t-marks c = omega arith
@@ -116,7 +116,7 @@ bounds-t-marks c =
     let k = e.before.before.before.before in
     let p = k.before.before.before.before.before.before.before.before.before.before in
     let l = turn p in
-    omega (arith, e.if-marks-turn.true, (k.make-turn.ensures.steps l.loop-i.t.saved l.loop-i.inv.1 (wanted_there p)).valid.few)
+    omega (arith, e.if-marks-turn.true, (k.make-turn.ensures.steps l.loop-i.t.saved l.loop-i.invariant.1 (wanted_there p)).valid.few)
 
 overflow_mul-i : tie.Need-overflow_mul-i invariant-loop-i decreases-loop-i
 overflow_mul-i c = omega (arith, offset_bounds-calls-i c.before.before.before.before.before.before.before.before.before.before.before.before.before.before.before.before.before.before.before)
@@ -124,12 +124,12 @@ overflow_mul-i c = omega (arith, offset_bounds-calls-i c.before.before.before.be
 write_reply-requires : tie.Need-write_reply-requires invariant-loop-i decreases-loop-i
 write_reply-requires c κs =
     let i = c.before.before.before.before.before.before.before.before.before.before.before.before.before.before.before.before.before.before.before in
-    omega (arith, i.loop-i-test.true, i.before.loop-i.invariant.4, (entry i.before).pre.2)
+    omega (arith, i.loop-test.true, i.loop.invariant.4, (entry i.before).requires.2)
 
 overflow_add-i : tie.Need-overflow_add-i invariant-loop-i decreases-loop-i
 overflow_add-i c =
     let i = c.before.before.before.before.before.before.before.before.before.before.before.before.before.before.before.before.before.before.before.before.before.before in
-    omega (arith, i.loop-i-test.true, (entry i.before).fits.n)
+    omega (arith, i.loop-test.true, (entry i.before).fits.n)
 
 loop-i-smaller : tie.Need-loop-i-smaller invariant-loop-i decreases-loop-i
 loop-i-smaller c = omega arith
@@ -143,16 +143,16 @@ loop-i-preserved c =
     let t = p.before.before.before.before in
     let l = t.before in
     let s = entry l in
-    let m = l.loop-i.invariant in
-    let grown = turned_grown k.make-turn.ensures l.loop-i.t.saved m.1 (wanted_there p) in
-    let kept = turned_kept k.make-turn.ensures l.loop-i.t.saved m.1 (wanted_there p) in (
-      omega (arith, t.loop-i-test.true),
-      ⊎_elim (λ x. rw x.3 (grown x.0.taken).valid) (λ x. rw x.1 (kept x.0.left).valid) j.if-marks-turn.branch,
+    let m = l.loop.invariant in
+    let grown = turned_grown k.make-turn.ensures l.loop.t.saved m.1 (wanted_there p) in
+    let kept = turned_kept k.make-turn.ensures l.loop.t.saved m.1 (wanted_there p) in (
+      omega (arith, t.loop-test.true),
+      ⊎_elim (λ x. rw x.3 (grown x.0.taken).valid) (λ x. rw x.1 (kept x.0.left).valid) j.if-marks-turn.branch-raw,
       ⊎_elim
-          (λ x. rw x.3 (made_next s.args.calls.now l.loop-i.i m.2 (grown x.0.taken) w.write_reply.ensures))
-          (λ x. rw x.1 (made_next s.args.calls.now l.loop-i.i m.2 (kept x.0.left) w.write_reply.ensures))
-          j.if-marks-turn.branch,
-      stepped_length m.1 (k.make-turn.ensures.steps l.loop-i.t.saved m.1 (wanted_there p)) ∙ m.3,
+          (λ x. rw x.3 (made_next s.args.calls.now l.loop.i m.2 (grown x.0.taken) w.write_reply.ensures))
+          (λ x. rw x.1 (made_next s.args.calls.now l.loop.i m.2 (kept x.0.left) w.write_reply.ensures))
+          j.if-marks-turn.branch-raw,
+      stepped_length m.1 (k.make-turn.ensures.steps l.loop.t.saved m.1 (wanted_there p)) ∙ m.3,
       ap length w.write_reply.ensures ∙ length_written _ _ _ ∙ m.4,
     )
 
@@ -168,7 +168,7 @@ returns c =
     let e : (entry l).args.n ≡ l.loop-i.i = omega (arith, c.loop-i-test.false, l.loop-i.invariant.0) in
     let m = l.loop-i.invariant.2 in
     record {
-      last = with_placed l.loop-i.t l.loop-i.starts-1 l.loop-i.free-1;
+      last = with_placed l.loop-i.t l.loop-i.starts l.loop-i.free;
       answers = m.answers;
       run = rw e m.run;
       words = m.words;

@@ -25,9 +25,9 @@ enum_told-in_default c = search rules
 
 returns-in_default : tie.Need-returns-in_default
 returns-in_default c =
-    let k = c.before.before in
-    let a = k.before.before.args in
-    let e = c.enum_told-in_default-1.given.1 in
+    let k = c.before in
+    let a = k.args in
+    let e = c.in_default.is in
     ap refusal_of e ∙ sym (unfit_kind a.calls.now a.room (sym k.kinds-checked.ensures ∙ ap refusal_of e))
 
 overflow_mul-n : tie.Need-overflow_mul-n
@@ -35,12 +35,12 @@ overflow_mul-n c = omega arith
 
 -- every call has a kind
 known : (c : tie.In-Fine) → let xs = c.before.before.before.before.args.calls.now in first_refusal (flat_map (kind_check xs) (up_from 0 (call_count xs))) ≡ none
-known c = sym c.before.before.kinds-checked.ensures ∙ ap refusal_of c.enum_told-1.given.1
+known c = sym c.before.before.kinds.ensures ∙ ap refusal_of c.enum_told.given.1
 
 returns-then-n-calls : tie.Need-returns-then-n-calls
 returns-then-n-calls c =
     let k = c.before in
-    let a = k.before.before.before.before.args in
+    let a = k.args in
     sym (unfit_cut a.calls.now a.room (known k) c.if-n-calls.true)
 
 overflow_mul-n-2 : tie.Need-overflow_mul-n-2
@@ -48,20 +48,20 @@ overflow_mul-n-2 c = omega arith
 
 -- and no number is left over
 whole : (c : tie.Else-n-calls) → let xs = c.before.before.before.before.before.args.calls.now in length xs ≤ 3 * call_count xs
-whole c = omega (arith, c.if-n-calls.false)
+whole c = omega (arith, c.if1.false)
 
 returns-then-room-n : tie.Need-returns-then-room-n
 returns-then-room-n c =
     let e = c.before in
     let k = e.before in
-    let a = k.before.before.before.before.args in
+    let a = k.args in
     sym (unfit_room a.calls.now a.room (known k) (whole e) (omega (arith, c.if-room-n.true)))
 
 returns : tie.Need-returns
 returns c =
     let e = c.before in
     let k = e.before in
-    let a = k.before.before.before.before.args in
+    let a = k.args in
     sym (fit a.calls.now a.room (known k) (whole e) (omega (arith, c.if-room-n.false)))
 
 pub unfit_spec : {M : Type 1} → statement M

@@ -14,8 +14,8 @@ enum_known-p : tie.Need-enum_known-p
 enum_known-p c = search rules
 
 -- cycle and slot are small
-small : (c : tie.In-Taken) → let w = c.before.p-1.given.0 in (w.0 < 16) × (w.1.0 ≤ 24)
-small c = c.before.before.before.requires.small _ _ (ap place_of c.before.p-1.given.1)
+small : (c : tie.In-Taken) → let w = c.before.p.given.0 in (w.0 < 16) × (w.1.0 ≤ 24)
+small c = c.before.before.before.requires.small _ _ (ap place_of c.before.p.given.1)
 
 overflow_mul-result : tie.Need-overflow_mul-result
 overflow_mul-result c = omega (arith, small c)
@@ -27,7 +27,7 @@ returns-in-Free : tie.Need-returns-in-Free
 returns-in-Free c = search rules
 
 returns-in-Taken : tie.Need-returns-in-Taken
-returns-in-Taken c = sym (ap number_in c.before.p-1.given.1)
+returns-in-Taken c = sym (ap number_in c.in-Taken.is)
 
 pub number_spec : {M : Type 1} → statement M
 number_spec = tie.close (tie.spec enum_told-1 enum_known-p overflow_mul-result overflow_add-result returns-in-Free returns-in-Taken)

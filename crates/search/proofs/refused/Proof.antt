@@ -15,7 +15,7 @@ returns-in-Fine : tie.Need-returns-in-Fine
 returns-in-Fine c = search rules
 
 returns-in-Refused : tie.Need-returns-in-Refused
-returns-in-Refused c = sym (ap as_refused c.before.c-1.given.1)
+returns-in-Refused c = sym (ap as_refused c.in-Refused.is)
 
 pub refused_spec : {M : Type 1} → statement M
 refused_spec = tie.close (tie.spec enum_told-1 enum_known-c returns-in-Fine returns-in-Refused)

@@ -26,17 +26,17 @@ refused-requires c κs = omega arith
 returns-in_default : tie.Need-returns-in_default
 returns-in_default c =
     let u = c.before.before in
-    by_file u.before.before.read-reading.ensures u.enum_told-1.given.1 (c.refused.ensures ∙ ap as_refused c.before.unread.ensures)
+    by_file u.read-reading.ensures u.in_default.is (c.refused.ensures ∙ ap as_refused c.unread.ensures)
 
 -- ---- once the file is accepted
 
 -- the entry
 abbrev start : tie.In-Accepted → tie.Start
-start c = c.before.before.before.before.before.before.before
+start c = c.before.before.before.before.before
 
 -- what the reader's answer says of the file
-known : (c : tie.In-Accepted) → let t = c.before.reading-1.given.0 in IsAccepted (start c).args.file.now t.0 t.1.0 t.1.1.0
-known c = read_accepted _ _ _ _ (sym (ap reading_of c.before.reading-1.given.1) ∙ c.before.before.before.read-reading.ensures)
+known : (c : tie.In-Accepted) → let t = c.before.reading.given.0 in IsAccepted (start c).args.file.now t.0 t.1.0 t.1.1.0
+known c = read_accepted _ _ _ _ (sym (ap reading_of c.before.reading.given.1) ∙ c.before.before.before.read.ensures)
 
 request-asked-requires : tie.Need-request-asked-requires
 request-asked-requires c κs = omega arith
@@ -51,18 +51,18 @@ refused-requires-in_default-asked : tie.Need-refused-requires-in_default-asked
 refused-requires-in_default-asked c κs = omega arith
 
 returns-in_default-asked : tie.Need-returns-in_default-asked
-returns-in_default-asked c = let a = c.before.before.before in by_request (known a.before) a.request-asked.ensures c.before.enum_told-in_default-asked-1.given.1 c.refused-in_default-asked.ensures
+returns-in_default-asked c = let a = c.before.before in by_request (known a.before) a.request-asked.ensures c.in_default-asked.is c.refused-in_default-asked.ensures
 
 -- ---- once the request passes
 
 -- no check fails
 fine : (c : tie.In-Fine) → let k = c.before.before.before in
     let g = (start k).args in
-    Passes g.file.now k.before.reading-1.given.0.0 g.cap g.horizon g.budget g.list-1.now g.rows-1.now
-fine c = let a = c.before.before in all_pass (known a.before) a.request-asked.ensures c.enum_told-in-Fine-1.given.1
+    Passes g.file.now k.before.reading.given.0.0 g.cap g.horizon g.budget g.list.now g.rows.now
+fine c = let a = c.before.before in all_pass (known a.before) a.request.ensures c.enum-told2.given.1
 
 lower-lower-requires : tie.Need-lower-lower-requires
-lower-lower-requires c κs = (known c.before.before.before).file
+lower-lower-requires c κs = (known c.before.before).file
 
 enum_known-lower : tie.Need-enum_known-lower
 enum_known-lower c = omega arith
@@ -74,15 +74,15 @@ unbounded-requires : tie.Need-unbounded-requires
 unbounded-requires c κs = omega arith
 
 returns-in_default-lower : tie.Need-returns-in_default-lower
-returns-in_default-lower c = let b = c.before.before.before in by_lower (fine b.before) b.lower-lower.ensures c.before.enum_told-in_default-lower-1.given.1 c.unbounded.ensures
+returns-in_default-lower c = let b = c.before.before in by_lower (fine b.before) b.lower-lower.ensures c.in_default-lower.is c.unbounded.ensures
 
 -- ---- once there are bounds
 
 attempt-requires : tie.Need-attempt-requires
 attempt-requires c κs =
-    let k = c.before.before.before in
-    let b = k.before.before in
-    passed (fine b.before) b.lower-lower.ensures k.lower-1.given.1
+    let k = c.before.before in
+    let b = k.before in
+    passed (fine b.before) b.lower-lower.ensures k.in-Found-2.is
 
 shape_of-list : tie.Need-shape_of-list
 shape_of-list c = omega arith
@@ -93,9 +93,9 @@ shape_of-rows c = omega arith
 returns : tie.Need-returns
 returns c =
     let t = c.before.before.before.before in
-    let k = t.before.before.before.before in
-    let b = k.before.before in
-    by_attempt (fine b.before) b.lower-lower.ensures k.lower-1.given.1 t.attempt.ensures
+    let k = t.before.before.before in
+    let b = k.before in
+    by_attempt (fine b.before) b.lower-lower.ensures k.in-Found-2.is t.attempt.ensures
 
 pub search_spec : {M : Type 1} → statement M
 search_spec =

@@ -4,11 +4,11 @@ use native.Mathlib.Omega.{arith}
 use borrow.Author.Rules.{rules}
 use Rattle.model.specs.Session as model
 use Rattle.session.proofs.Steps.{stepped_plain}
-use Rattle.session.proofs.force-reply.Statement.{statement}
-use Rattle.session.proofs.force-reply.Tie as tie
+use Rattle.session.proofs.force.Statement.{statement}
+use Rattle.session.proofs.force.Tie as tie
 
 force-reply-requires : tie.Need-force-reply-requires
-force-reply-requires c κs = let v = c.before.before.before.before.before.before.before.before.before.requires in (omega (arith, v.stored, v.fits_in), v.board, v.free-1)
+force-reply-requires c κs = let v = c.requires in (omega (arith, v.stored, v.fits_in), v.board, v.free)
 
 shape_of-rows : tie.Need-shape_of-rows
 shape_of-rows c = search rules
@@ -16,8 +16,8 @@ shape_of-rows c = search rules
 returns : tie.Need-returns
 returns c =
     let m = c.before.before in
-    let s = m.before.before.before.before.before.before.before.before.before.before in
-    stepped_plain s.args.s s.args.rows-1.now s.requires (model.force-reply s.args.op s.args.start) (λ a cs. refl) (λ a cs. refl) m.force-reply.ensures
+    let s = m.before.before.before.before.before.before.before.before.before in
+    stepped_plain s.args.s s.args.rows.now s.requires (model.force s.args.op s.args.start) (λ a cs. refl) (λ a cs. refl) m.force-reply.ensures
 
 pub force_spec : {M : Type 1} → statement M
 force_spec = tie.close (tie.spec force-reply-requires shape_of-rows returns)

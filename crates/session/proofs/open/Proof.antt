@@ -30,32 +30,32 @@ start c = c.before.before.before
 returns-in_default : tie.Need-returns-in_default
 returns-in_default c =
     let t = c.before in
-    let k = t.before.before in
+    let k = t.before in
     let a = (start k).args in
-    let e = t.enum_told-in_default-1.given.1 in
-    rw (c.closed-nothing.ensures, e) (open_refused a.file.now a.interval a.horizon a.rows-1.now _ _ (sym k.openable-answer.ensures ∙ ap refusal_of e))
+    let e = t.in_default.is in
+    rw (c.closed-nothing.ensures, e) (open_refused a.file.now a.interval a.horizon a.rows.now _ _ (sym k.openable-answer.ensures ∙ ap refusal_of e))
 
 -- nothing is against it
-fine : (c : tie.In-Fine) → let a = (start c.before.before).args in first_refusal (open_checks a.file.now a.interval a.horizon (length a.rows-1.now)) ≡ none
-fine c = sym c.before.before.openable-answer.ensures ∙ ap refusal_of c.enum_told-1.given.1
+fine : (c : tie.In-Fine) → let a = (start c.before.before).args in first_refusal (open_checks a.file.now a.interval a.horizon (length a.rows.now)) ≡ none
+fine c = sym c.before.before.openable.ensures ∙ ap refusal_of c.enum_told.given.1
 
 copy_file-requires : tie.Need-copy_file-requires
 copy_file-requires c κs =
     let e = c.before in
-    let a = (start e.before.before).args in
-    (open_short a.file.now a.interval a.horizon a.rows-1.now (fine e), refl)
+    let a = (start e.before).args in
+    (open_short a.file.now a.interval a.horizon a.rows.now (fine e), refl)
 
 clear_rows-requires : tie.Need-clear_rows-requires
 clear_rows-requires c κs =
     let e = c.before.before.before in
-    let a = (start e.before.before).args in
-    omega (arith, open_room a.file.now a.interval a.horizon a.rows-1.now (fine e), open_some a.file.now a.interval a.horizon a.rows-1.now (fine e))
+    let a = (start e.before).args in
+    omega (arith, open_room a.file.now a.interval a.horizon a.rows.now (fine e), open_some a.file.now a.interval a.horizon a.rows.now (fine e))
 
 overflow_cast-each : tie.Need-overflow_cast-each
 overflow_cast-each c =
     let e = c.before.before.before.before.before.before in
-    let a = (start e.before.before).args in
-    omega (arith, open_long a.file.now a.interval a.horizon a.rows-1.now (fine e))
+    let a = (start e.before).args in
+    omega (arith, open_long a.file.now a.interval a.horizon a.rows.now (fine e))
 
 shape_of-rows : tie.Need-shape_of-rows
 shape_of-rows c = omega arith
@@ -65,8 +65,8 @@ returns c =
     let w = c.before.before in
     let y = w.before.before in
     let e = y.before.before in
-    let a = (start e.before.before).args in
-    open_done a.file.now a.interval a.horizon a.rows-1.now (fine e) (replicate longest 0) _ _ (length-replicate {A = ℕ} longest 0) y.copy_file.ensures w.clear_rows.ensures
+    let a = (start e.before).args in
+    open_done a.file.now a.interval a.horizon a.rows.now (fine e) (replicate longest 0) _ _ (length-replicate {A = ℕ} longest 0) y.copy_file.ensures w.clear_rows.ensures
 
 pub open_spec : {M : Type 1} → statement M
 open_spec =

@@ -14,7 +14,7 @@ abbrev decreases-loop-at : tie.decreases-loop-at
 decreases-loop-at table rows₀ t₀ at₀ rows t at = length table - at
 
 loop-at-init : tie.Need-loop-at-init invariant-loop-at decreases-loop-at
-loop-at-init c = (c.before.before.requires, refl)
+loop-at-init c = (c.requires, refl)
 
 find-end-requires : tie.Need-find-end-requires invariant-loop-at decreases-loop-at
 find-end-requires c κs = omega arith
@@ -22,10 +22,10 @@ find-end-requires c κs = omega arith
 slice_bounds-read_call-count : tie.Need-slice_bounds-read_call-count invariant-loop-at decreases-loop-at
 slice_bounds-read_call-count c = omega arith
 
-slice_bounds-read_call-start : tie.Need-slice_bounds-read_call-start invariant-loop-at decreases-loop-at
+slice_bounds-read_call-start : tie.Need-slice-bounds-read-call-start invariant-loop-at decreases-loop-at
 slice_bounds-read_call-start c = omega arith
 
-slice_bounds-read_call-end : tie.Need-slice_bounds-read_call-end invariant-loop-at decreases-loop-at
+slice_bounds-read_call-end : tie.Need-slice-bounds-read-call-end invariant-loop-at decreases-loop-at
 slice_bounds-read_call-end c = omega arith
 
 read_call-c-requires : tie.Need-read_call-c-requires invariant-loop-at decreases-loop-at
@@ -38,7 +38,7 @@ returns-then-c-eq0 : tie.Need-returns-then-c-eq0 invariant-loop-at decreases-loo
 returns-then-c-eq0 c = tt
 
 made-t-requires : tie.Need-made-t-requires invariant-loop-at decreases-loop-at
-made-t-requires c κs = c.before.before.before.before.before.before.before.loop-at.invariant.0
+made-t-requires c κs = c.loop-at.invariant.0
 
 overflow_add-at : tie.Need-overflow_add-at invariant-loop-at decreases-loop-at
 overflow_add-at c = omega arith
@@ -47,7 +47,7 @@ loop-at-smaller : tie.Need-loop-at-smaller invariant-loop-at decreases-loop-at
 loop-at-smaller c = omega arith
 
 loop-at-preserved : tie.Need-loop-at-preserved invariant-loop-at decreases-loop-at
-loop-at-preserved c = (c.before.before.made-t.ensures, omega arith)
+loop-at-preserved c = (c.made-t.ensures, omega arith)
 
 shape_of-rows : tie.Need-shape_of-rows invariant-loop-at decreases-loop-at
 shape_of-rows c = omega arith

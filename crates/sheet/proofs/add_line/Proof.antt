@@ -15,8 +15,8 @@ shape_of-rows c = search rules
 
 returns : tie.Need-returns
 returns c =
-    let w = c.before.before.before.before.before.add_file-added.ensures in
-    adds_line w c.before.write_line.ensures
+    let w = c.add_file-added.ensures in
+    adds_line w c.write_line.ensures
 
 pub add_line_spec : {M : Type 1} → statement M
 add_line_spec = tie.close (tie.spec add_file-added-requires write_line-requires shape_of-rows returns)

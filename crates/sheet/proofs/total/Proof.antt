@@ -17,11 +17,11 @@ unread-requires : tie.Need-unread-requires
 unread-requires c κs = search rules
 
 returns-in_default : tie.Need-returns-in_default
-returns-in_default c = by_bundle _ _ _ _ c.before.before.before.read-read.ensures c.before.enum_told-1.given.1 _ c.unread.ensures
+returns-in_default c = by_bundle _ _ _ _ c.read-read.ensures c.in_default.is _ c.unread.ensures
 
 -- the reading, from where its number is known
 abbrev reading : tie.In-Files-2 → tie.After-read-read
-reading k = k.before.before
+reading k = k.before
 
 lent-by_rows-requires : tie.Need-lent-by_rows-requires
 lent-by_rows-requires c κs = search rules
@@ -37,16 +37,16 @@ refused-requires c κs = search rules
 
 returns-in_default-by_rows : tie.Need-returns-in_default-by_rows
 returns-in_default-by_rows c =
-    let l = c.before.before.before in
-    let k = l.before.before in
-    by_table _ _ _ _ (reading k).read-read.ensures k.read-1.given.1 l.lent-by_rows.ensures c.before.enum_told-in_default-by_rows-1.given.1 _ c.refused.ensures
+    let l = c.before.before in
+    let k = l.before in
+    by_table _ _ _ _ (reading k).read-read.ensures k.in-Files-2.is l.lent-by_rows.ensures c.in_default-by_rows.is _ c.refused.ensures
 
 walk-sums-requires : tie.Need-walk-sums-requires
 walk-sums-requires c κs =
     let f = c.before.before in
-    let l = f.before.before in
-    let k = l.before.before in
-    ((read_as _ (reading k).read-read.ensures k.read-1.given.1).1, room _ l.lent-by_rows.ensures f.enum_told-in-Fine-1.given.1)
+    let l = f.before in
+    let k = l.before in
+    ((read_as _ (reading k).read-read.ensures k.in-Files-2.is).1, room _ l.lent-by_rows.ensures f.in-Fine.is)
 
 write_slots-requires : tie.Need-write_slots-requires
 write_slots-requires c κs = search rules
@@ -58,9 +58,9 @@ returns : tie.Need-returns
 returns c =
     let w = c.before.before.before.before in
     let f = w.before.before.before in
-    let l = f.before.before in
-    let k = l.before.before in
-    by_walk _ _ _ _ (reading k).read-read.ensures k.read-1.given.1 l.lent-by_rows.ensures f.enum_told-in-Fine-1.given.1 w.walk-sums.ensures c.write_slots.ensures
+    let l = f.before in
+    let k = l.before in
+    by_walk _ _ _ _ (reading k).read-read.ensures k.in-Files-2.is l.lent-by_rows.ensures f.in-Fine.is w.walk-sums.ensures c.write_slots.ensures
 
 pub total_spec : {M : Type 1} → statement M
 total_spec =

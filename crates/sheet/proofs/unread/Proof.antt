@@ -15,7 +15,7 @@ returns-in-Files : tie.Need-returns-in-Files
 returns-in-Files c = search rules
 
 returns-in-Refused : tie.Need-returns-in-Refused
-returns-in-Refused c = sym (ap as_unread c.before.b-1.given.1)
+returns-in-Refused c = sym (ap as_unread c.in-Refused.is)
 
 pub unread_spec : {M : Type 1} → statement M
 unread_spec = tie.close (tie.spec enum_told-1 enum_known-b returns-in-Files returns-in-Refused)

@@ -32,13 +32,13 @@ told : (i : ℕ) (old : List ℕ) {x y : Searched} {new : List ℕ} → x ≡ y 
 told i old e w = w ∙ ap (λ (r : Searched). written i (line_of r) old) (sym e)
 
 returns-in-Found : tie.Need-returns-in-Found
-returns-in-Found c = told _ _ c.before.before.before.r-1.given.1 c.write_numbers.ensures
+returns-in-Found c = told _ _ c.in-Found.is c.write_numbers.ensures
 
 returns-in-Ended : tie.Need-returns-in-Ended
-returns-in-Ended c = told _ _ c.before.before.before.r-in-Ended-1.given.1 c.write_numbers-in-Ended.ensures
+returns-in-Ended c = told _ _ c.in-Ended.is c.write_numbers-in-Ended.ensures
 
 returns-in-Refused : tie.Need-returns-in-Refused
-returns-in-Refused c = told _ _ c.before.before.before.r-in-Refused-1.given.1 c.write_numbers-in-Refused.ensures
+returns-in-Refused c = told _ _ c.in-Refused.is c.write_numbers-in-Refused.ensures
 
 pub write_line_spec : {M : Type 1} → statement M
 write_line_spec =

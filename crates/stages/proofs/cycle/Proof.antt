@@ -6,7 +6,7 @@ use Rattle.stages.proofs.cycle.Statement.{statement}
 use Rattle.stages.proofs.cycle.Tie as tie
 
 returns-then-interval-eq0 : tie.Need-returns-then-interval-eq0
-returns-then-interval-eq0 c = rw c.if-interval-eq0.true (sym (mod-zero c.before.args.start))
+returns-then-interval-eq0 c = rw c.if-interval-eq0.true (sym (mod-zero c.args.start))
 
 nonzero_rem-result : tie.Need-nonzero_rem-result
 nonzero_rem-result c = search rules

@@ -13,7 +13,7 @@ latency-cycles-requires : tie.Need-latency-cycles-requires
 latency-cycles-requires c κs = search rules
 
 returns-then-cycles-eq0 : tie.Need-returns-then-cycles-eq0
-returns-then-cycles-eq0 c = let e = c.before.before.start_of_lem.ensures in (omega (arith, e.0, c.before.latency-cycles.ensures), omega (arith, e.1))
+returns-then-cycles-eq0 c = let e = c.start_of-first.ensures in (omega (arith, e.0, c.latency-cycles.ensures), omega (arith, e.1))
 
 overflow_sub-result : tie.Need-overflow_sub-result
 overflow_sub-result c = search rules
@@ -25,12 +25,12 @@ quick c =
     omega (arith, c.latency-cycles.ensures, ((accepted_ok s.args.file.now s.requires.0).op_ok s.args.op s.requires.1).quick)
 
 overflow_add-result : tie.Need-overflow_add-result
-overflow_add-result c = omega (arith, c.before.before.start_of_lem.ensures.1, quick c.before)
+overflow_add-result c = omega (arith, c.start_of-first.ensures.1, quick c.before)
 
 returns : tie.Need-returns
 returns c =
-    let e = c.before.before.start_of_lem.ensures in
-    (omega (arith, e.0, c.before.latency-cycles.ensures), omega (arith, e.1, quick c.before))
+    let e = c.start_of-first.ensures in
+    (omega (arith, e.0, c.latency-cycles.ensures), omega (arith, e.1, quick c.before))
 
 pub last_cycle_spec : {M : Type 1} → statement M
 last_cycle_spec =

@@ -21,17 +21,17 @@ abbrev start : tie.In-loop-o invariant-loop-o decreases-loop-o → tie.Start inv
 start c = c.before.before.before.before.before
 
 op_count-n-requires : tie.Need-op_count-n-requires invariant-loop-o decreases-loop-o
-op_count-n-requires c κs = c.before.before.requires
+op_count-n-requires c κs = c.requires
 
 loop-o-init : tie.Need-loop-o-init invariant-loop-o decreases-loop-o
 unfolding max_of up_from
 loop-o-init c = omega arith
 
 last_cycle-last-requires : tie.Need-last_cycle-last-requires invariant-loop-o decreases-loop-o
-last_cycle-last-requires c κs = ((start c).requires, omega (arith, c.before.before.op_count-n.ensures))
+last_cycle-last-requires c κs = ((start c).requires, omega (arith, c.op_count-n.ensures))
 
 overflow_add-o : tie.Need-overflow_add-o invariant-loop-o decreases-loop-o
-overflow_add-o c = omega (arith, (start c.before.before).good)
+overflow_add-o c = omega (arith, (start c.before.before).well_formed)
 
 loop-o-smaller : tie.Need-loop-o-smaller invariant-loop-o decreases-loop-o
 loop-o-smaller c = omega arith
@@ -44,16 +44,16 @@ loop-o-preserved : tie.Need-loop-o-preserved invariant-loop-o decreases-loop-o
 loop-o-preserved c =
     let i = c.before.before in
     let a = (start i).args in
-    let e = c.before.last_cycle-last.ensures in
-    let g = further (last_cycle (loop_of a.file.now) a.starts.now) i.before.loop-o.o in
-    ⊎_elim (λ w. omega (arith, e.0, e.1, g)) (λ w. omega (arith, e.0, e.1, g)) c.if-most-last.branch
+    let e = c.last_cycle-last.ensures in
+    let g = further (last_cycle (loop_of a.file.now) a.starts.now) i.loop-o.o in
+    ⊎_elim (λ w. omega (arith, e.0, e.1, g)) (λ w. omega (arith, e.0, e.1, g)) c.if-most-last.branch-raw
 
 returns : tie.Need-returns invariant-loop-o decreases-loop-o
 unfolding last_occupied
 returns c =
-    let a = c.before.before.before.before.before.args in
-    let e = c.before.loop-o.invariant.2 in
-    (e ∙ ap (λ (k : ℕ). max_of (last_cycle (loop_of a.file.now) a.starts.now) (up_from 0 k)) (omega (arith, c.before.before.op_count-n.ensures)), c.before.loop-o.invariant.1)
+    let a = c.args in
+    let e = c.loop-o.invariant.2 in
+    (e ∙ ap (λ (k : ℕ). max_of (last_cycle (loop_of a.file.now) a.starts.now) (up_from 0 k)) (omega (arith, c.op_count-n.ensures)), c.loop-o.invariant.1)
 
 pub last_occupied_spec : {M : Type 1} → statement M
 last_occupied_spec =

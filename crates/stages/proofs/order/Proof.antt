@@ -35,39 +35,39 @@ bounds-starts-p : tie.Need-bounds-starts-p invariant-loop-p decreases-loop-p
 bounds-starts-p c = omega arith
 
 overflow_cast-starts : tie.Need-overflow_cast-starts invariant-loop-p decreases-loop-p
-overflow_cast-starts c = omega (arith, c.shared_slice_known-in-loop-p-1.given c.before.before.loop-p.p)
+overflow_cast-starts c = omega (arith, c.shared_slice_known-in-loop-p-1.given c.loop-p.p)
 
 comes_before-requires : tie.Need-comes_before-requires invariant-loop-p decreases-loop-p
 comes_before-requires c κs = search rules
 
 overflow_add-n : tie.Need-overflow_add-n invariant-loop-p decreases-loop-p
-overflow_add-n c = omega (arith, (start c.before.before.before).good)
+overflow_add-n c = omega (arith, (start c.before.before.before).well_formed)
 
 overflow_add-p : tie.Need-overflow_add-p invariant-loop-p decreases-loop-p
-overflow_add-p c = omega (arith, (start c.before.before.before).good)
+overflow_add-p c = omega (arith, (start c.before.before.before).well_formed)
 
 loop-p-smaller : tie.Need-loop-p-smaller invariant-loop-p decreases-loop-p
 loop-p-smaller c = omega arith
 
 -- what was told of operation p is whether it comes before
-told : (c : tie.After-comes_before invariant-loop-p decreases-loop-p) → let i = c.before.before in let a = (start i).args in earlier a.interval a.starts.now a.op i.before.loop-p.p ≡ c.comes_before.result
+told : (c : tie.After-comes_before invariant-loop-p decreases-loop-p) → let i = c.before.before in let a = (start i).args in earlier a.interval a.starts.now a.op i.before.loop.p ≡ c.comes-before.result
 told c =
     let i = c.before.before in
     let a = (start i).args in
-    sym (c.comes_before.ensures ∙ ap (λ (s : ℕ). comes_before a.interval s a.op (get_or a.starts.now i.before.loop-p.p 0) i.before.loop-p.p) i.before.before.start_of_lem.ensures.0)
+    sym (c.comes-before.ensures ∙ ap (λ (s : ℕ). comes_before a.interval s a.op (get_or a.starts.now i.before.loop.p 0) i.before.loop.p) i.before.before.start_of_lem.ensures.0)
 
 loop-p-preserved : tie.Need-loop-p-preserved invariant-loop-p decreases-loop-p
 loop-p-preserved c =
     let i = c.before.before.before in
     let a = (start i).args in
     let test = earlier a.interval a.starts.now a.op in
-    ⊎_elim (λ w. omega (arith, count_yes test i.before.loop-p.p (told c.before ∙ w.0.taken))) (λ w. omega (arith, count_no test i.before.loop-p.p (told c.before ∙ w.0.left))) c.if-comes_before.branch
+    ⊎_elim (λ w. omega (arith, count_yes test i.loop-p.p (told c.before ∙ w.0.taken))) (λ w. omega (arith, count_no test i.loop-p.p (told c.before ∙ w.0.left))) c.if-comes_before.branch-raw
 
 returns : tie.Need-returns invariant-loop-p decreases-loop-p
 unfolding order_of
 returns c =
-    let a = c.before.before.before.before.args in
-    c.before.loop-p.invariant.2 ∙ ap (λ (k : ℕ). count_if (earlier a.interval a.starts.now a.op) (up_from 0 k)) (omega arith)
+    let a = c.args in
+    c.loop-p.invariant.2 ∙ ap (λ (k : ℕ). count_if (earlier a.interval a.starts.now a.op) (up_from 0 k)) (omega arith)
 
 pub order_spec : {M : Type 1} → statement M
 order_spec =

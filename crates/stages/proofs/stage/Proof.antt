@@ -6,7 +6,7 @@ use Rattle.stages.proofs.stage.Statement.{statement}
 use Rattle.stages.proofs.stage.Tie as tie
 
 returns-then-interval-eq0 : tie.Need-returns-then-interval-eq0
-returns-then-interval-eq0 c = rw c.if-interval-eq0.true (sym (div-zero c.before.args.start))
+returns-then-interval-eq0 c = rw c.if-interval-eq0.true (sym (div-zero c.args.start))
 
 nonzero_div-result : tie.Need-nonzero_div-result
 nonzero_div-result c = search rules

@@ -15,11 +15,11 @@ stage-requires : tie.Need-stage-requires
 stage-requires c κs = search rules
 
 overflow_add-result : tie.Need-overflow_add-result
-overflow_add-result c = omega (arith, div-le_self c.before.last_occupied.result c.before.before.before.before.args.interval, c.stage.ensures, c.before.last_occupied.ensures.1)
+overflow_add-result c = omega (arith, div-le_self c.last_occupied.result c.args.interval, c.stage.ensures, c.last_occupied.ensures.1)
 
 returns : tie.Need-returns
 unfolding stage_count
-returns c = ap (λ (n : ℕ). n + 1) (c.stage.ensures ∙ ap (stage c.before.before.before.before.args.interval) c.before.last_occupied.ensures.0)
+returns c = ap (λ (n : ℕ). n + 1) (c.stage.ensures ∙ ap (stage c.args.interval) c.last_occupied.ensures.0)
 
 pub stage_count_spec : {M : Type 1} → statement M
 stage_count_spec = tie.close (tie.spec last_occupied-requires stage-requires overflow_add-result returns)

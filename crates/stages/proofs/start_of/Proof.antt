@@ -13,13 +13,13 @@ bounds-starts-op : tie.Need-bounds-starts-op
 bounds-starts-op c = search rules
 
 overflow_cast-result : tie.Need-overflow_cast-result
-overflow_cast-result c = omega (arith, c.shared_slice_known-1.given c.before.before.args.op)
+overflow_cast-result c = omega (arith, c.shared_slice_known-1.given c.args.op)
 
 returns-then-op-starts : tie.Need-returns-then-op-starts
-returns-then-op-starts c = (refl, omega (arith, c.shared_slice_known-1.given c.before.before.args.op))
+returns-then-op-starts c = (refl, omega (arith, c.shared_slice_known-1.given c.args.op))
 
 returns : tie.Need-returns
-returns c = let a = c.before.args in (sym (get_or-eq_default a.starts.now 0 c.if-op-starts.false), omega arith)
+returns c = let a = c.args in (sym (get_or-eq_default a.starts.now 0 c.if-op-starts.false), omega arith)
 
 pub start_of_spec : {M : Type 1} → statement M
 start_of_spec =

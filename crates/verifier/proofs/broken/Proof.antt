@@ -15,7 +15,7 @@ returns-in-Nothing : tie.Need-returns-in-Nothing
 returns-in-Nothing c = search rules
 
 returns-in-At : tie.Need-returns-in-At
-returns-in-At c = sym (ap as_broken c.before.b-1.given.1)
+returns-in-At c = sym (ap as_broken c.in-At.is)
 
 pub broken_spec : {M : Type 1} → statement M
 broken_spec = tie.close (tie.spec enum_told-1 enum_known-b returns-in-Nothing returns-in-At)

@@ -30,20 +30,20 @@ unread-requires c κs = omega arith
 returns-in_default : tie.Need-returns-in_default
 unfolding proposed_checks
 returns-in_default c =
-    let r = c.before.before.before in
-    let a = r.before.before.before.args in
-    ap refusal_of c.unread.ensures ∙ unread_first a.file.now (proposal_checks (loop_of a.file.now) a.interval a.starts.now) r.read-reading.ensures c.before.enum_told-1.given.1
+    let r = c.before.before in
+    let a = r.args in
+    ap refusal_of c.unread.ensures ∙ unread_first a.file.now (proposal_checks (loop_of a.file.now) a.interval a.starts.now) r.read-reading.ensures c.in_default.is
 
 -- ---- once the file is accepted
 
 abbrev start : tie.In-Accepted → tie.Start
-start c = c.before.before.before.before.before.before
+start c = c.before.before.before.before
 
 abbrev file : tie.In-Accepted → List ℕ
 file c = (start c).args.file.now
 
-known : (c : tie.In-Accepted) → let t = c.before.reading-1.given.0 in IsAccepted (file c) t.0 t.1.0 t.1.1.0
-known c = read_accepted _ _ _ _ (sym (ap reading_of c.before.reading-1.given.1) ∙ c.before.before.before.read-reading.ensures)
+known : (c : tie.In-Accepted) → let t = c.before.reading.given.0 in IsAccepted (file c) t.0 t.1.0 t.1.1.0
+known c = read_accepted _ _ _ _ (sym (ap reading_of c.before.reading.given.1) ∙ c.before.before.before.read.ensures)
 
 -- the checks that are left, for n operations: of the list, and before it of the interval
 abbrev byList : tie.In-Accepted → ℕ → List Check
@@ -54,7 +54,7 @@ byInterval c n = range 1 4096 (start c).args.interval ∷ byList c n
 
 -- the number of operations as it was read
 abbrev ops : tie.In-Accepted → ℕ
-ops c = c.before.reading-1.given.0.0
+ops c = c.in-Accepted.n
 
 -- they decide
 accepted_decides : (c : tie.In-Accepted) → let a = (start c).args in first_refusal (proposed_checks a.file.now a.interval a.starts.now) ≡ first_refusal (byInterval c (ops c))
@@ -72,9 +72,9 @@ enum_told-in_default-by_interval c = omega arith
 
 returns-in_default-by_interval : tie.Need-returns-in_default-by_interval
 returns-in_default-by_interval c =
-    let r = c.before.before in
+    let r = c.before in
     let k = r.before in
-    refused_first (range 1 4096 (start k).args.interval ∷ []) (byList k (ops k)) r.range-by_interval.ensures c.enum_told-in_default-by_interval-1.given.1 ∙ sym (accepted_decides k)
+    refused_first (range 1 4096 (start k).args.interval ∷ []) (byList k (ops k)) r.range-by_interval.ensures c.in_default-by_interval.is ∙ sym (accepted_decides k)
 
 -- ---- once the interval passes
 
@@ -84,7 +84,7 @@ interval_decides : (c : tie.In-Fine) → let k = c.before.before.before in
 interval_decides c =
     let r = c.before.before in
     let k = r.before in
-    accepted_decides k ∙ rest_decides (range 1 4096 (start k).args.interval ∷ []) (byList k (ops k)) r.range-by_interval.ensures c.enum_told-in-Fine-1.given.1
+    accepted_decides k ∙ rest_decides (range 1 4096 (start k).args.interval ∷ []) (byList k (ops k)) r.range.ensures c.enum-told2.given.1
 
 lent-by_list-requires : tie.Need-lent-by_list-requires
 lent-by_list-requires c κs = omega arith
@@ -97,22 +97,22 @@ enum_told-in_default-by_list c = omega arith
 
 returns-in_default-by_list : tie.Need-returns-in_default-by_list
 returns-in_default-by_list c =
-    let l = c.before.before in
-    let k = l.before.before.before.before in
+    let l = c.before in
+    let k = l.before.before.before in
     let xs = (start k).args.starts.now in
-    refused_first (lent (ops k) (length xs) ∷ []) (late_start xs (ops k) ∷ []) l.lent-by_list.ensures c.enum_told-in_default-by_list-1.given.1 ∙ sym (interval_decides l.before)
+    refused_first (lent (ops k) (length xs) ∷ []) (late_start xs (ops k) ∷ []) l.lent-by_list.ensures c.in_default-by_list.is ∙ sym (interval_decides l.before)
 
 -- ---- once the list is long enough
 
 first_late-requires : tie.Need-first_late-requires
-first_late-requires c κs = let k = c.before.before.before.before.before.before in lent_fine (ops k) (length (start k).args.starts.now) c.before.before.lent-by_list.ensures c.enum_told-in-Fine-by_list-1.given.1
+first_late-requires c κs = let k = c.before.before.before.before in lent_fine (ops k) (length (start k).args.starts.now) c.lent-by_list.ensures c.in-Fine-by_list.is
 
 returns : tie.Need-returns
 returns c =
-    let l = c.before.before.before in
-    let k = l.before.before.before.before in
+    let l = c.before.before in
+    let k = l.before.before.before in
     let xs = (start k).args.starts.now in
-    c.first_late.ensures ∙ sym (interval_decides l.before ∙ rest_decides (lent (ops k) (length xs) ∷ []) (late_start xs (ops k) ∷ []) l.lent-by_list.ensures c.before.enum_told-in-Fine-by_list-1.given.1)
+    c.first_late.ensures ∙ sym (interval_decides l.before ∙ rest_decides (lent (ops k) (length xs) ∷ []) (late_start xs (ops k) ∷ []) l.lent-by_list.ensures c.in-Fine-by_list.is)
 
 pub proposed_spec : {M : Type 1} → statement M
 proposed_spec =

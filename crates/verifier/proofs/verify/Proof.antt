@@ -36,8 +36,8 @@ start c = c.before.before.before
 
 returns-in_default : tie.Need-returns-in_default
 returns-in_default c =
-    let e = c.before.enum_told-in_default-1.given.1 in
-    let p = c.before.before.before in
+    let e = c.in_default.is in
+    let p = c.before.before in
     let a = (start p).args in
     ap verdict_of (c.refused.ensures ∙ ap as_refused e) ∙ sym (by_check a.file.now a.interval a.starts.now _ (sym p.proposed-checked.ensures ∙ ap refusal_of e))
 
@@ -51,7 +51,7 @@ abbrev list : tie.After-proposed-checked → List ℕ
 list c = one_each (loop_of (file c)) (start c).args.starts.now
 
 fine : (c : tie.In-Fine) → let p = c.before.before in first_refusal (proposed_checks (file p) (start p).args.interval (start p).args.starts.now) ≡ none
-fine c = sym c.before.before.proposed-checked.ensures ∙ ap refusal_of c.enum_told-1.given.1
+fine c = sym c.before.before.proposed.ensures ∙ ap refusal_of c.enum_told.given.1
 
 -- the answer is what the walks find
 by_found : (c : tie.In-Fine) (e : Option ℕ) (p : Option (ℕ × ℕ)) → let k = c.before.before in
@@ -66,7 +66,7 @@ by_found c e p x y =
 
 first_broken-dependence-requires : tie.Need-first_broken-dependence-requires
 first_broken-dependence-requires c κs =
-    let k = c.before.before in
+    let k = c.before in
     let a = (start k).args in
     (pass_file (file k) a.interval a.starts.now (fine c), pass_asked (file k) a.interval a.starts.now (fine c))
 
@@ -81,17 +81,17 @@ broken-requires c κs = omega arith
 
 returns-in_default-dependence : tie.Need-returns-in_default-dependence
 returns-in_default-dependence c =
-    let e = c.before.enum_told-in_default-dependence-1.given.1 in
-    let b = c.before.before.before in
+    let e = c.in_default-dependence.is in
+    let b = c.before.before in
     ap verdict_of (c.broken.ensures ∙ ap as_broken e) ∙ by_found b.before _ _ (sym b.first_broken-dependence.ensures ∙ ap broken_of e) refl
 
 -- ---- once the dependences hold
 
 none_broken : (c : tie.In-Nothing) → let k = c.before.before.before.before.before in first_broken (loop_of (file k)) (start k).args.interval (list k) ≡ none
-none_broken c = sym c.before.before.first_broken-dependence.ensures ∙ ap broken_of c.enum_told-in-Nothing-1.given.1
+none_broken c = sym c.before.before.first-broken.ensures ∙ ap broken_of c.enum-told3.given.1
 
 first_pair-pair-requires : tie.Need-first_pair-pair-requires
-first_pair-pair-requires c κs = let b = c.before.before in first_broken-dependence-requires b.before κs
+first_pair-pair-requires c κs = let b = c.before in first_broken-dependence-requires b.before κs
 
 enum_known-pair : tie.Need-enum_known-pair
 enum_known-pair c = omega arith
@@ -101,39 +101,39 @@ enum_told-in_default-pair c = omega arith
 
 returns-in_default-pair : tie.Need-returns-in_default-pair
 returns-in_default-pair c =
-    let p = c.before.before in by_found p.before.before.before.before _ _ (none_broken p.before) (sym p.first_pair-pair.ensures ∙ ap pair_of c.enum_told-in_default-pair-1.given.1)
+    let p = c.before in by_found p.before.before.before _ _ (none_broken p.before) (sym p.first_pair-pair.ensures ∙ ap pair_of c.in_default-pair.is)
 
 -- ---- where a pair conflicts
 
 abbrev pair-at : tie.In-At → tie.After-first_pair-pair
-pair-at c = c.before.before.before
+pair-at c = c.before
 
 abbrev after : tie.In-At → tie.In-Fine
-after c = (pair-at c).before.before.before.before
+after c = (pair-at c).before.before.before
 
 -- its two operations
 abbrev one : tie.In-At → ℕ
-one c = c.before.pair-1.given.0.0
+one c = c.in-At.a
 
 abbrev other : tie.In-At → ℕ
-other c = c.before.pair-1.given.0.1.0
+other c = c.in-At.b
 
-found : (c : tie.In-At) → let k = (after c).before.before in first_pair (loop_of (file k)) (start k).args.interval (list k) ≡ some (one c, other c)
-found c = sym (pair-at c).first_pair-pair.ensures ∙ ap pair_of c.before.pair-1.given.1
+found : (c : tie.In-At) → let k = (after c).before in first_pair (loop_of (file k)) (start k).args.interval (list k) ≡ some (one c, other c)
+found c = sym (pair-at c).first_pair-pair.ensures ∙ ap pair_of c.before.pair.given.1
 
-is_pair : (c : tie.In-At) → let k = (after c).before.before in PairFound (loop_of (file k)) (start k).args.interval (list k) (one c) (other c)
-is_pair c = let k = (after c).before.before in pair_found (loop_of (file k)) (start k).args.interval (list k) (one c) (other c) (found c)
+is_pair : (c : tie.In-At) → let k = (after c).before in PairFound (loop_of (file k)) (start k).args.interval (list k) (one c) (other c)
+is_pair c = let k = (after c).before in pair_found (loop_of (file k)) (start k).args.interval (list k) (one c) (other c) (found c)
 
 place_of-place-requires : tie.Need-place_of-place-requires
 place_of-place-requires c κs =
-    let k = (after c).before.before in
+    let k = (after c).before in
     let a = (start k).args in
     (pass_file (file k) a.interval a.starts.now (fine (after c)), pass_asked (file k) a.interval a.starts.now (fine (after c)), (is_pair c).ordered, (is_pair c).inside)
 
 number-requires : tie.Need-number-requires
 number-requires c κs =
     let w = c.before in
-    let k = (after w).before.before in
+    let k = (after w).before in
     let a = (start k).args in
     pair_range (loop_of (file k)) a.interval (list k) (one w) (other w) (accepted_ok (file k) (pass_file (file k) a.interval a.starts.now (fine (after w)))) (is_pair w).inside
     c.place_of-place.result c.place_of-place.ensures
@@ -142,7 +142,7 @@ returns : tie.Need-returns
 returns c =
     let p = c.before in
     let w = p.before in
-    let k = (after w).before.before in
+    let k = (after w).before in
     ap (λ (n : ℕ). answered (clash (one w) (other w) n)) c.number.ensures
     ∙ conflict_says (one w) (other w) p.place_of-place.result (pair_place (loop_of (file k)) (start k).args.interval (list k) (one w, other w)) p.place_of-place.ensures
     ∙ by_found (after w) none (some (one w, other w)) (none_broken (pair-at w).before) (found w)

@@ -20,7 +20,7 @@ number-requires c κs = search rules
 
 returns-in_default : tie.Need-returns-in_default
 returns-in_default c =
-    let e = c.before.enum_told-in_default-1.given.1 in
+    let e = c.in_default.is in
     ap (λ (n : ℕ). Refused 17 n) c.number.ensures ∙ ap (λ (p : Place). Refused 17 (number_in p)) e ∙ sym (ap as_clash e)
 
 returns : tie.Need-returns

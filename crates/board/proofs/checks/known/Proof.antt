@@ -12,20 +12,20 @@ use Rattle.board.proofs.checks.known.Statement.{statement}
 use Rattle.board.proofs.checks.known.Tie as tie
 
 op_count-requires : tie.Need-op_count-requires
-op_count-requires c κs = c.before.requires.accepted
+op_count-requires c κs = c.requires.accepted
 
 returns-then-op_count-op : tie.Need-returns-then-op_count-op
 returns-then-op_count-op c =
     let k = c.before in
-    let a = k.before.before.args in
+    let a = k.args in
     sym (no_such a.file.now a.horizon a.op a.start a.starts.now _ (omega (arith, c.if-op_count-op.true, k.op_count.ensures)))
 
 -- the operation is there
 inside : (c : tie.Else-op_count-op) → let a = c.before.before.before.args in a.op < size (loop_of a.file.now)
-inside c = omega (arith, c.if-op_count-op.false, c.before.op_count.ensures)
+inside c = omega (arith, c.if1.false, c.before.op_count.ensures)
 
 -- and is below 64
-small : (c : tie.Else-op_count-op) → c.before.before.before.args.op < 64
+small : (c : tie.Else-op_count-op) → c.args.op < 64
 small c = let s = c.before.before.before in omega (arith, inside c, (accepted_ok s.args.file.now s.requires.accepted).few)
 
 -- what the array has in its place
@@ -39,19 +39,19 @@ bounds-starts-op : tie.Need-bounds-starts-op
 bounds-starts-op c = small c
 
 returns-then-starts-op : tie.Need-returns-then-starts-op
-returns-then-starts-op c = let e = c.before.before in let a = e.before.before.before.args in sym (is_taken a.file.now a.horizon a.op a.start a.starts.now (inside e) (λ q. c.if-starts-op.true (sym (there e) ∙ q)))
+returns-then-starts-op c = let e = c.before.before in let a = e.args in sym (is_taken a.file.now a.horizon a.op a.start a.starts.now (inside e) (λ q. c.if-starts-op.true (sym (there e) ∙ q)))
 
 returns-then-horizon-start : tie.Need-returns-then-horizon-start
 returns-then-horizon-start c =
     let e = c.before.before.before in
-    let a = e.before.before.before.args in
-    sym (is_late a.file.now a.horizon a.op a.start a.starts.now (inside e) (there e ∙ c.before.if-starts-op.false) c.if-horizon-start.true)
+    let a = e.args in
+    sym (is_late a.file.now a.horizon a.op a.start a.starts.now (inside e) (there e ∙ c.if-starts-op.false) c.if-horizon-start.true)
 
 returns : tie.Need-returns
 returns c =
     let e = c.before.before.before in
-    let a = e.before.before.before.args in
-    sym (is_known a.file.now a.horizon a.op a.start a.starts.now (inside e) (there e ∙ c.before.if-starts-op.false) c.if-horizon-start.false)
+    let a = e.args in
+    sym (is_known a.file.now a.horizon a.op a.start a.starts.now (inside e) (there e ∙ c.if-starts-op.false) c.if-horizon-start.false)
 
 pub known_spec : {M : Type 1} → statement M
 known_spec = tie.close (tie.spec op_count-requires returns-then-op_count-op offset_bounds-starts-op bounds-starts-op returns-then-starts-op returns-then-horizon-start returns)

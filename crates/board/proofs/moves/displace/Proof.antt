@@ -20,55 +20,55 @@ decreases-loop-p file op start interval starts₀ rows₀ hits free n mask₀ p�
 
 mark_broken-requires : tie.Need-mark_broken-requires invariant-loop-p decreases-loop-p
 mark_broken-requires c κs =
-    let s = c.before.before.before.before in
+    let s = c.before.before.before in
     let b = s.requires.0 in
     (record { accepted = b.accepted; whole = b.sane.whole }, s.requires.3, b.numbers.short, refl)
 
 first_use-requires : tie.Need-first_use-requires invariant-loop-p decreases-loop-p
-first_use-requires c κs = let s = c.before.before.before.before.before in (s.requires.0.accepted, s.requires.1)
+first_use-requires c κs = let s = c.before.before.before.before in (s.requires.0.accepted, s.requires.1)
 
 is_free-free-requires : tie.Need-is_free-free-requires invariant-loop-p decreases-loop-p
 is_free-free-requires c κs =
-    let s = c.before.before.before.before.before.before.before in
+    let s = c.before.before.before.before.before in
     let b = s.requires.0 in
-    (b.accepted, s.requires.1, omega (arith, s.requires.3), b.numbers.some, b.numbers.short, b.held.long, c.before.first_use.ensures)
+    (b.accepted, s.requires.1, omega (arith, s.requires.3), b.numbers.some, b.numbers.short, b.held.long, c.first-use.ensures)
 
 op_count-n-requires : tie.Need-op_count-n-requires invariant-loop-p decreases-loop-p
-op_count-n-requires c κs = c.before.before.before.before.before.before.before.before.requires.0.accepted
+op_count-n-requires c κs = c.requires.0.accepted
 
 loop-p-init : tie.Need-loop-p-init invariant-loop-p decreases-loop-p
 loop-p-init c =
-    let s = c.before.before.before.before.before.before.before.before.before in
+    let s = c.before.before.before.before.before.before.before in
     (omega arith, clear_begin s.args.op s.args.start s.requires.0)
 
 -- the function's entry, as a turn sees it
 abbrev entry : tie.In-loop-p invariant-loop-p decreases-loop-p → tie.Start invariant-loop-p decreases-loop-p
-entry c = c.before.before.before.before.before.before.before.before.before.before.before
+entry c = c.before.before.before.before.before.before.before.before.before
 
 -- the operation is there
-inside : (c : tie.In-loop-p invariant-loop-p decreases-loop-p) → c.before.loop-p.p < size (loop_of (entry c).args.file.now)
-inside c = omega (arith, c.loop-p-test.true, c.before.before.op_count-n.ensures)
+inside : (c : tie.In-loop-p invariant-loop-p decreases-loop-p) → c.loop-p.p < size (loop_of (entry c).args.file.now)
+inside c = omega (arith, c.loop-p-test.true, c.op_count-n.ensures)
 
 -- and has a place
-below : (c : tie.In-loop-p invariant-loop-p decreases-loop-p) → c.before.loop-p.p < 64
+below : (c : tie.In-loop-p invariant-loop-p decreases-loop-p) → c.loop-p.p < 64
 below c = omega (arith, inside c, few_operations (entry c).args.file.now (entry c).requires.0.accepted)
 
 in_the_way-requires : tie.Need-in_the_way-requires invariant-loop-p decreases-loop-p
 in_the_way-requires c κs =
     let i = c.before.before in
     let s = entry i in
-    let b = s.pre.0 in
-    let t = i.before.loop-p.invariant.1 in
+    let b = s.requires.0 in
+    let t = i.loop.invariant.1 in
     record {
       accepted = b.accepted;
       numbers = b.numbers;
       sane = t.board.sane;
-      inside = s.pre.1;
+      inside = s.requires.1;
       inside_p = inside i;
-      near = s.pre.3;
-      blank = clear_open b s.pre.2 t;
-      hit = clear_hit b s.pre.2 t (inside i) i.before.before.before.before.before.before.mark_broken.ensures;
-      apart = λ e. clear_free b s.pre.2 t s.pre.1 (inside i) (i.before.before.before.is_free-free.ensures.yes e);
+      near = s.requires.3;
+      blank = clear_open b s.requires.2 t;
+      hit = clear_hit b s.requires.2 t (inside i) i.mark-broken.ensures;
+      apart = λ e. clear_free b s.requires.2 t s.requires.1 (inside i) (i.is_free.ensures.yes e);
     }
 
 lift-requires : tie.Need-lift-requires invariant-loop-p decreases-loop-p
@@ -76,8 +76,8 @@ lift-requires c κs =
     let a = c.before.before in
     let i = a.before.before.before.before in
     let s = entry i in
-    let t = i.before.loop-p.invariant.1 in
-    (t.board, inside i, clear_placed s.pre.0 s.pre.2 t (sym a.before.in_the_way.ensures ∙ a.if-in_the_way.true))
+    let t = i.loop.invariant.1 in
+    (t.board, inside i, clear_placed s.requires.0 s.requires.2 t (sym a.in_the_way.ensures ∙ a.if-in_the_way.true))
 
 overflow_shl-mask : tie.Need-overflow_shl-mask invariant-loop-p decreases-loop-p
 overflow_shl-mask c = below c.before.before.before.before.before.before.before.before.before
@@ -93,23 +93,23 @@ loop-p-preserved c =
     let a = c.before in
     let i = a.before.before.before in
     let s = entry i in
-    let t = i.before.loop-p.invariant.1 in (
+    let t = i.loop.invariant.1 in (
       omega arith,
       ⊎_elim
-          (λ w. rw (w.6, w.7, w.8) (clear_lift s.pre.0 s.pre.2 t (below i) (sym a.in_the_way.ensures ∙ w.0.taken) w.3.ensures))
-          (λ w. rw (w.1, w.2, w.3) (clear_keep s.pre.0 s.pre.2 t (sym a.in_the_way.ensures ∙ w.0.left)))
-          c.if-in_the_way.branch,
+          (λ w. rw (w.6, w.7, w.8) (clear_lift s.requires.0 s.requires.2 t (below i) (sym a.in_the_way.ensures ∙ w.0.taken) w.3.ensures))
+          (λ w. rw (w.1, w.2, w.3) (clear_keep s.requires.0 s.requires.2 t (sym a.in_the_way.ensures ∙ w.0.left)))
+          c.if-in_the_way.branch-raw,
     )
 
 shape_of-rows : tie.Need-shape_of-rows invariant-loop-p decreases-loop-p
 shape_of-rows c =
-    let t = c.before.loop-p.invariant.1 in
-    rest_length c.before.before.before.before.before.before.before.before.before.before.before.requires.0 t.board t.rest
+    let t = c.loop-p.invariant.1 in
+    rest_length c.requires.0 t.board t.rest
 
 returns : tie.Need-returns invariant-loop-p decreases-loop-p
 returns c =
-    let e : c.before.before.op_count-n.result ≡ c.before.loop-p.p = omega arith in
-    rw (← c.before.before.op_count-n.ensures, e) c.before.loop-p.invariant.1
+    let e : c.op_count-n.result ≡ c.loop-p.p = omega arith in
+    rw (← c.op_count-n.ensures, e) c.loop-p.invariant.1
 
 pub displace_spec : {M : Type 1} → statement M
 displace_spec =

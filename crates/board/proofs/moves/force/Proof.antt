@@ -17,15 +17,15 @@ use Rattle.board.proofs.moves.force.Statement.{statement}
 use Rattle.board.proofs.moves.force.Tie as tie
 
 slice_bounds-file-end : tie.Need-slice_bounds-file-end
-slice_bounds-file-end c = let s = c.before.before.before in sym (length-take-le s.args.length- s.args.store.now s.requires.0)
+slice_bounds-file-end c = let s = c.before.before in sym (length-take-le s.args.length- s.args.store.now s.requires.0)
 
 forceable-checked-requires : tie.Need-forceable-checked-requires
 forceable-checked-requires c κs =
-    let b = c.before.before.before.before.requires.1 in
+    let b = c.requires.1 in
     (b.accepted, b.numbers, record { accepted = b.accepted; whole = b.sane.whole })
 
 abbrev start : tie.After-forceable-checked → tie.Start
-start c = c.before.before.before.before.before
+start c = c.before.before.before
 
 -- the file
 abbrev file : tie.Start → List ℕ
@@ -42,27 +42,27 @@ passed_on-requires c κs = omega arith
 
 returns-in_default : tie.Need-returns-in_default
 returns-in_default c =
-    let k = c.before.before.before in
+    let k = c.before.before in
     let s = start k in
-    did_passed s.pre.1 (force s.args.op s.args.start) k.forceable-checked.ensures c.before.enum_told-in_default-1.given.1 c.passed_on.ensures
+    did_passed s.requires.1 (force s.args.op s.args.start) k.forceable-checked.ensures c.in_default.is c.passed_on.ensures
 
 -- nothing is against it
 fine : (c : tie.In-Fine) → let s = start c.before.before in
     first_refusal (checks (setup_as (file s) s.args.interval s.args.horizon) (force s.args.op s.args.start) (bare (file s) s.args.starts.now)) ≡ none
-fine c = sym c.before.before.forceable-checked.ensures ∙ ap refusal_of c.enum_told-1.given.1
+fine c = sym c.before.before.forceable.ensures ∙ ap refusal_of c.enum_told.given.1
 
 -- its start is in range
-near : (c : tie.In-Fine) → (start c.before.before).args.start < 4096
+near : (c : tie.In-Fine) → (start c.before).args.start < 4096
 near c =
-    let s = start c.before.before in
-    let b = s.pre.1 in
+    let s = start c.before in
+    let b = s.requires.1 in
     omega (arith, force_near b s.args.op s.args.start (fine c), b.numbers.far)
 
 displace-mask-requires : tie.Need-displace-mask-requires
 displace-mask-requires c κs =
     let e = c.before.before in
-    let s = start e.before.before in
-    let b = s.pre.1 in
+    let s = start e.before in
+    let b = s.requires.1 in
     let o = s.args.op in
     let t = s.args.start in
     (board_far b, force_inside b o t (fine e), force_open b o t (fine e), near e)
@@ -71,8 +71,8 @@ put-requires : tie.Need-put-requires
 put-requires c κs =
     let d = c.before.before.before.before in
     let e = d.before.before.before in
-    let s = start e.before.before in
-    let b = s.pre.1 in
+    let s = start e.before in
+    let b = s.requires.1 in
     let o = s.args.op in
     let t = s.args.start in
     let l = d.displace-mask.ensures in
@@ -86,8 +86,8 @@ returns c =
     let u = c.before.before in
     let d = u.before.before.before.before.before in
     let e = d.before.before.before in
-    let s = start e.before.before in
-    did_force s.pre.1 s.args.op s.args.start (fine e) d.displace-mask.ensures u.put.ensures
+    let s = start e.before in
+    did_force s.requires.1 s.args.op s.args.start (fine e) d.displace-mask.ensures u.put.ensures
 
 pub force_spec : {M : Type 1} → statement M
 force_spec =

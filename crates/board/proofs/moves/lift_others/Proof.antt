@@ -19,7 +19,7 @@ abbrev decreases-loop-p : tie.decreases-loop-p
 decreases-loop-p file interval wanted starts₀ rows₀ n p₀ starts rows p = n - p
 
 op_count-n-requires : tie.Need-op_count-n-requires invariant-loop-p decreases-loop-p
-op_count-n-requires c κs = c.before.before.requires.0.accepted
+op_count-n-requires c κs = c.requires.0.accepted
 
 loop-p-init : tie.Need-loop-p-init invariant-loop-p decreases-loop-p
 loop-p-init c = let s = c.before.before.before in (omega arith, thin_begin s.args.wanted.now s.requires.0)
@@ -29,15 +29,15 @@ abbrev entry : tie.In-loop-p invariant-loop-p decreases-loop-p → tie.Start inv
 entry c = c.before.before.before.before.before
 
 -- the operation has a place
-below : (c : tie.In-loop-p invariant-loop-p decreases-loop-p) → c.before.loop-p.p < 64
-below c = omega (arith, few_operations (entry c).args.file.now (entry c).requires.0.accepted, c.before.before.op_count-n.ensures)
+below : (c : tie.In-loop-p invariant-loop-p decreases-loop-p) → c.loop-p.p < 64
+below c = omega (arith, few_operations (entry c).args.file.now (entry c).requires.0.accepted, c.op_count-n.ensures)
 
 -- what is read there, of the starts and of those that are wanted
-start_is : (c : tie.In-loop-p invariant-loop-p decreases-loop-p) → get_or c.before.loop-p.starts c.before.loop-p.p 65535 ≡ get_or c.before.loop-p.starts c.before.loop-p.p 0
-start_is c = get_or_within c.before.loop-p.starts c.before.loop-p.p 65535 0 (omega (arith, below c, c.before.loop-p.invariant.1.board.sane.whole))
+start_is : (c : tie.In-loop-p invariant-loop-p decreases-loop-p) → get_or c.loop-p.starts c.loop-p.p 65535 ≡ get_or c.loop-p.starts c.loop-p.p 0
+start_is c = get_or_within c.loop-p.starts c.loop-p.p 65535 0 (omega (arith, below c, c.loop-p.invariant.1.board.sane.whole))
 
-wanted_is : (c : tie.In-loop-p invariant-loop-p decreases-loop-p) → get_or (entry c).args.wanted.now c.before.loop-p.p 65535 ≡ get_or (entry c).args.wanted.now c.before.loop-p.p 0
-wanted_is c = get_or_within (entry c).args.wanted.now c.before.loop-p.p 65535 0 (omega (arith, below c, (entry c).requires.1.whole))
+wanted_is : (c : tie.In-loop-p invariant-loop-p decreases-loop-p) → get_or (entry c).args.wanted.now c.loop-p.p 65535 ≡ get_or (entry c).args.wanted.now c.loop-p.p 0
+wanted_is c = get_or_within (entry c).args.wanted.now c.loop-p.p 65535 0 (omega (arith, below c, (entry c).requires.1.whole))
 
 offset_bounds-starts-p : tie.Need-offset_bounds-starts-p invariant-loop-p decreases-loop-p
 offset_bounds-starts-p c = omega (arith, below c)
@@ -55,8 +55,8 @@ lift-requires : tie.Need-lift-requires invariant-loop-p decreases-loop-p
 lift-requires c κs =
     let a = c.before.before.before.before in
     let i = a.before.before in
-    let b = i.before.loop-p.invariant.1.board in
-    (b, omega (arith, i.before.before.op_count-n.ensures, i.loop-p-test.true), omega (arith, sane_near b.sane i.before.loop-p.p (λ e. a.if-start.true (sym (start_is i) ∙ e))))
+    let b = i.loop-p.invariant.1.board in
+    (b, omega (arith, i.op_count-n.ensures, i.loop-p-test.true), omega (arith, sane_near b.sane i.loop-p.p (λ e. a.if-start.true (sym (start_is i) ∙ e))))
 
 overflow_add-p : tie.Need-overflow_add-p invariant-loop-p decreases-loop-p
 overflow_add-p c = omega (arith, below c.before.before)
@@ -67,26 +67,26 @@ loop-p-smaller c = omega arith
 loop-p-preserved : tie.Need-loop-p-preserved invariant-loop-p decreases-loop-p
 loop-p-preserved c =
     let i = c.before.before in
-    let t = i.before.loop-p.invariant.1 in
-    let l : i.before.loop-p.p < length i.before.loop-p.starts = omega (arith, below i, t.board.sane.whole) in (
+    let t = i.loop-p.invariant.1 in
+    let l : i.loop-p.p < length i.loop-p.starts = omega (arith, below i, t.board.sane.whole) in (
       omega arith,
       ⊎_elim
           (λ w. rw (w.8, w.9) (thin_lift t l (λ e. w.2.taken (sym (start_is i) ∙ e ∙ wanted_is i)) w.5.ensures))
           (λ v. ⊎_elim
           (λ w. rw (w.3, w.4) (thin_keep t (inr (start_is i ∙ w.2.left ∙ sym (wanted_is i)))))
           (λ w. rw (w.1, w.2) (thin_keep t (inl (start_is i ∙ w.0.left)))) v)
-          c.if-start.branch,
+          c.if-start.branch-raw,
     )
 
 shape_of-rows : tie.Need-shape_of-rows invariant-loop-p decreases-loop-p
 shape_of-rows c =
-    let t = c.before.loop-p.invariant.1 in
-    rest_length c.before.before.before.before.before.requires.0 t.board t.rest
+    let t = c.loop-p.invariant.1 in
+    rest_length c.requires.0 t.board t.rest
 
 returns : tie.Need-returns invariant-loop-p decreases-loop-p
 returns c =
-    let e : c.before.before.op_count-n.result ≡ c.before.loop-p.p = omega arith in
-    rw (← c.before.before.op_count-n.ensures, e) c.before.loop-p.invariant.1
+    let e : c.op_count-n.result ≡ c.loop-p.p = omega arith in
+    rw (← c.op_count-n.ensures, e) c.loop-p.invariant.1
 
 pub lift_others_spec : {M : Type 1} → statement M
 lift_others_spec =

@@ -21,7 +21,7 @@ abbrev decreases-loop-e : tie.decreases-loop-e
 decreases-loop-e file op start interval starts hits₀ m e₀ hits e = m - e
 
 dep_count-m-requires : tie.Need-dep_count-m-requires invariant-loop-e decreases-loop-e
-dep_count-m-requires c κs = c.before.requires.0.accepted
+dep_count-m-requires c κs = c.requires.0.accepted
 
 loop-e-init : tie.Need-loop-e-init invariant-loop-e decreases-loop-e
 loop-e-init c =
@@ -33,15 +33,15 @@ abbrev entry : tie.In-loop-e invariant-loop-e decreases-loop-e → tie.Start inv
 entry c = c.before.before.before.before
 
 -- the dependence is there
-below : (c : tie.In-loop-e invariant-loop-e decreases-loop-e) → c.before.loop-e.e < length (loop_of (entry c).args.file.now).deps
-below c = omega (arith, c.loop-e-test.true, c.before.before.dep_count-m.ensures)
+below : (c : tie.In-loop-e invariant-loop-e decreases-loop-e) → c.loop-e.e < length (loop_of (entry c).args.file.now).deps
+below c = omega (arith, c.loop-e-test.true, c.dep_count-m.ensures)
 
 -- the dependence of a turn, and its ends
 abbrev dep : tie.In-loop-e invariant-loop-e decreases-loop-e → Dep
-dep c = dep_at (loop_of (entry c).args.file.now) c.before.loop-e.e
+dep c = dep_at (loop_of (entry c).args.file.now) c.loop-e.e
 
 dep_ok : (c : tie.In-loop-e invariant-loop-e decreases-loop-e) → DepOk (size (loop_of (entry c).args.file.now)) (dep c)
-dep_ok c = (accepted_ok (entry c).args.file.now (entry c).requires.0.accepted).dep_ok c.before.loop-e.e (below c)
+dep_ok c = (accepted_ok (entry c).args.file.now (entry c).requires.0.accepted).dep_ok c.loop-e.e (below c)
 
 few : (c : tie.In-loop-e invariant-loop-e decreases-loop-e) → size (loop_of (entry c).args.file.now) ≤ 64
 few c = few_operations (entry c).args.file.now (entry c).requires.0.accepted
@@ -50,7 +50,7 @@ breaks_at-requires : tie.Need-breaks_at-requires invariant-loop-e decreases-loop
 breaks_at-requires c κs =
     let i = c.before in
     let s = entry i in
-    (s.pre.0.accepted, below i, omega (arith, s.pre.1), s.pre.2, omega (arith, few i, s.pre.0.whole))
+    (s.requires.0.accepted, below i, omega (arith, s.requires.1), s.requires.2, omega (arith, few i, s.requires.0.whole))
 
 source-from-requires : tie.Need-source-from-requires invariant-loop-e decreases-loop-e
 source-from-requires c κs = let i = c.before.before.before in ((entry i).requires.0.accepted, below i)
@@ -59,10 +59,10 @@ target-to-requires : tie.Need-target-to-requires invariant-loop-e decreases-loop
 target-to-requires c κs = let i = c.before.before.before.before.before in ((entry i).requires.0.accepted, below i)
 
 bounds-hits-to : tie.Need-bounds-hits-to invariant-loop-e decreases-loop-e
-bounds-hits-to c = let i = c.before.before.before.before.before.before in omega (arith, (dep_ok i).target-to, few i, c.target-to.ensures)
+bounds-hits-to c = let i = c.before.before.before.before.before.before in omega (arith, (dep_ok i).target, few i, c.target-to.ensures)
 
 bounds-hits-from : tie.Need-bounds-hits-from invariant-loop-e decreases-loop-e
-bounds-hits-from c = let i = c.before.before.before.before.before in omega (arith, (dep_ok i).source-from, few i, c.before.source-from.ensures)
+bounds-hits-from c = let i = c.before.before.before.before.before in omega (arith, (dep_ok i).source, few i, c.source-from.ensures)
 
 overflow_add-e : tie.Need-overflow_add-e invariant-loop-e decreases-loop-e
 overflow_add-e c = omega arith
@@ -74,20 +74,20 @@ loop-e-preserved : tie.Need-loop-e-preserved invariant-loop-e decreases-loop-e
 loop-e-preserved c =
     let b = c.before in
     let i = b.before.before in
-    let h = i.before.loop-e.invariant.1 in (
+    let h = i.loop-e.invariant.1 in (
       omega arith,
       ⊎_elim
-          (λ w. rw w.4 (mark_target h w.3.result (omega (arith, (dep_ok i).target-to, few i, w.3.ensures)) w.3.ensures (sym b.breaks_at.ensures ∙ w.0.taken) (sym w.1.ensures ∙ w.2.taken)))
+          (λ w. rw w.4 (mark_target h w.3.result (omega (arith, (dep_ok i).target, few i, w.3.ensures)) w.3.ensures (sym b.breaks_at.ensures ∙ w.0.taken) (sym w.1.ensures ∙ w.2.taken)))
           (λ v. ⊎_elim
-          (λ w. rw w.3 (mark_source h w.1.result (omega (arith, (dep_ok i).source-from, few i, w.1.ensures)) w.1.ensures (sym b.breaks_at.ensures ∙ w.0.taken) (λ e. w.2.left (w.1.ensures ∙ e))))
+          (λ w. rw w.3 (mark_source h w.1.result (omega (arith, (dep_ok i).source, few i, w.1.ensures)) w.1.ensures (sym b.breaks_at.ensures ∙ w.0.taken) (λ e. w.2.left (w.1.ensures ∙ e))))
           (λ w. rw w.1 (mark_skip h (sym b.breaks_at.ensures ∙ w.0.left))) v)
-          c.if-breaks_at.branch,
+          c.if-breaks_at.branch-raw,
     )
 
 returns : tie.Need-returns invariant-loop-e decreases-loop-e
 returns c =
-    let e : c.before.before.dep_count-m.result ≡ c.before.loop-e.e = omega arith in
-    rw (← c.before.before.dep_count-m.ensures, e) c.before.loop-e.invariant.1
+    let e : c.dep_count-m.result ≡ c.loop-e.e = omega arith in
+    rw (← c.dep_count-m.ensures, e) c.loop-e.invariant.1
 
 pub mark_broken_spec : {M : Type 1} → statement M
 mark_broken_spec =

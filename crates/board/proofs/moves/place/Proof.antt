@@ -16,13 +16,13 @@ use Rattle.board.proofs.moves.place.Statement.{statement}
 use Rattle.board.proofs.moves.place.Tie as tie
 
 slice_bounds-file-end : tie.Need-slice_bounds-file-end
-slice_bounds-file-end c = let s = c.before.before.before in sym (length-take-le s.args.length- s.args.store.now s.requires.0)
+slice_bounds-file-end c = let s = c.before.before in sym (length-take-le s.args.length- s.args.store.now s.requires.0)
 
 placeable-checked-requires : tie.Need-placeable-checked-requires
-placeable-checked-requires c κs = c.before.before.before.before.before.requires.1
+placeable-checked-requires c κs = c.requires.1
 
 abbrev start : tie.After-placeable-checked → tie.Start
-start c = c.before.before.before.before.before.before
+start c = c.before.before.before
 
 -- the file
 abbrev file : tie.Start → List ℕ
@@ -42,20 +42,20 @@ shape_of-rows-in_default c = omega arith
 
 returns-in_default : tie.Need-returns-in_default
 returns-in_default c =
-    let k = c.before.before.before in
+    let k = c.before.before in
     let s = start k in
-    did_passed s.pre.1 (place s.args.op s.args.start) k.placeable-checked.ensures c.before.enum_told-in_default-1.given.1 c.passed_on.ensures
+    did_passed s.requires.1 (place s.args.op s.args.start) k.placeable-checked.ensures c.in_default.is c.passed_on.ensures
 
 -- nothing is against it
 fine : (c : tie.In-Fine) → let s = start c.before.before in
     first_refusal (checks (setup_as (file s) s.args.interval s.args.horizon) (place s.args.op s.args.start) (bare (file s) s.args.starts.now)) ≡ none
-fine c = sym c.before.before.placeable-checked.ensures ∙ ap refusal_of c.enum_told-1.given.1
+fine c = sym c.before.before.placeable.ensures ∙ ap refusal_of c.enum_told.given.1
 
 put-requires : tie.Need-put-requires
 put-requires c κs =
     let e = c.before.before in
-    let s = start e.before.before in
-    let b = s.pre.1 in
+    let s = start e.before in
+    let b = s.requires.1 in
     let o = s.args.op in
     let t = s.args.start in
     record {
@@ -73,8 +73,8 @@ returns : tie.Need-returns
 returns c =
     let u = c.before.before in
     let e = u.before.before.before in
-    let s = start e.before.before in
-    did_place s.pre.1 s.args.op s.args.start (fine e) u.put.ensures
+    let s = start e.before in
+    did_place s.requires.1 s.args.op s.args.start (fine e) u.put.ensures
 
 pub place_spec : {M : Type 1} → statement M
 place_spec =

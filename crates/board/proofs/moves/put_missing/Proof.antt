@@ -20,7 +20,7 @@ abbrev decreases-loop-p : tie.decreases-loop-p
 decreases-loop-p file interval wanted starts₀ rows₀ n p₀ starts rows p = n - p
 
 op_count-n-requires : tie.Need-op_count-n-requires invariant-loop-p decreases-loop-p
-op_count-n-requires c κs = c.before.before.requires.0.accepted
+op_count-n-requires c κs = c.requires.0.accepted
 
 loop-p-init : tie.Need-loop-p-init invariant-loop-p decreases-loop-p
 loop-p-init c = let s = c.before.before.before in (omega arith, fill_begin s.requires.0 s.requires.2)
@@ -30,24 +30,24 @@ abbrev entry : tie.In-loop-p invariant-loop-p decreases-loop-p → tie.Start inv
 entry c = c.before.before.before.before.before
 
 -- the operation is one of the file's, and has a place
-inside : (c : tie.In-loop-p invariant-loop-p decreases-loop-p) → c.before.loop-p.p < size (loop_of (entry c).args.file.now)
-inside c = omega (arith, c.before.before.op_count-n.ensures)
+inside : (c : tie.In-loop-p invariant-loop-p decreases-loop-p) → c.loop-p.p < size (loop_of (entry c).args.file.now)
+inside c = omega (arith, c.op_count-n.ensures)
 
-below : (c : tie.In-loop-p invariant-loop-p decreases-loop-p) → c.before.loop-p.p < 64
+below : (c : tie.In-loop-p invariant-loop-p decreases-loop-p) → c.loop-p.p < 64
 below c = omega (arith, few_operations (entry c).args.file.now (entry c).requires.0.accepted, inside c)
 
 -- what is read there, of the starts and of those that are wanted
-start_is : (c : tie.In-loop-p invariant-loop-p decreases-loop-p) → get_or c.before.loop-p.starts c.before.loop-p.p 65535 ≡ get_or c.before.loop-p.starts c.before.loop-p.p 0
-start_is c = get_or_within c.before.loop-p.starts c.before.loop-p.p 65535 0 (omega (arith, below c, c.before.loop-p.invariant.1.board.sane.whole))
+start_is : (c : tie.In-loop-p invariant-loop-p decreases-loop-p) → get_or c.loop-p.starts c.loop-p.p 65535 ≡ get_or c.loop-p.starts c.loop-p.p 0
+start_is c = get_or_within c.loop-p.starts c.loop-p.p 65535 0 (omega (arith, below c, c.loop-p.invariant.1.board.sane.whole))
 
-wanted_is : (c : tie.In-loop-p invariant-loop-p decreases-loop-p) → get_or (entry c).args.wanted.now c.before.loop-p.p 65535 ≡ get_or (entry c).args.wanted.now c.before.loop-p.p 0
-wanted_is c = get_or_within (entry c).args.wanted.now c.before.loop-p.p 65535 0 (omega (arith, below c, (entry c).requires.1.whole))
+wanted_is : (c : tie.In-loop-p invariant-loop-p decreases-loop-p) → get_or (entry c).args.wanted.now c.loop-p.p 65535 ≡ get_or (entry c).args.wanted.now c.loop-p.p 0
+wanted_is c = get_or_within (entry c).args.wanted.now c.loop-p.p 65535 0 (omega (arith, below c, (entry c).requires.1.whole))
 
 -- a start that is put in is in range
-near : (c : tie.Then-start invariant-loop-p decreases-loop-p) → get_or (entry c.before.before.before.before).args.wanted.now c.before.before.before.before.before.loop-p.p 0 < 4096
+near : (c : tie.Then-start invariant-loop-p decreases-loop-p) → get_or (entry c.before.before.before.before).args.wanted.now c.loop-p.p 0 < 4096
 near c =
     let i = c.before.before.before.before in
-    fill_near i.before.loop-p.invariant.1 (get_or (entry i).args.wanted.now i.before.loop-p.p 0) (entry i).requires.1 (inside i) (start_is i ∙ c.before.before.if-starts-p.true) (wanted_is i) c.if-start.true
+    fill_near i.loop-p.invariant.1 (get_or (entry i).args.wanted.now i.loop-p.p 0) (entry i).requires.1 (inside i) (start_is i ∙ c.if-starts-p.true) (wanted_is i) c.if-start.true
 
 offset_bounds-starts-p : tie.Need-offset_bounds-starts-p invariant-loop-p decreases-loop-p
 offset_bounds-starts-p c = omega (arith, below c)
@@ -68,14 +68,14 @@ put-requires : tie.Need-put-requires invariant-loop-p decreases-loop-p
 put-requires c κs =
     let a = c.before.before in
     let i = a.before.before.before.before in
-    let t = i.before.loop-p.invariant.1 in
-    let free = start_is i ∙ a.before.before.if-starts-p.true in
+    let t = i.loop-p.invariant.1 in
+    let free = start_is i ∙ a.if-starts-p.true in
     record {
       board = t.board;
       inside = inside i;
       blank = free;
       near = near a;
-      fits = fill_fits t (get_or (entry i).args.wanted.now i.before.loop-p.p 0) (entry i).requires.1 (inside i) free (wanted_is i) a.if-start.true;
+      fits = fill_fits t (get_or (entry i).args.wanted.now i.loop-p.p 0) (entry i).requires.1 (inside i) free (wanted_is i) a.if-start.true;
     }
 
 overflow_add-p : tie.Need-overflow_add-p invariant-loop-p decreases-loop-p
@@ -87,27 +87,27 @@ loop-p-smaller c = omega arith
 loop-p-preserved : tie.Need-loop-p-preserved invariant-loop-p decreases-loop-p
 loop-p-preserved c =
     let i = c.before.before in
-    let t = i.before.loop-p.invariant.1 in (
+    let t = i.loop-p.invariant.1 in (
       omega arith,
       ⊎_elim
           (λ w. rw (w.8, w.9)
-          (fill_put t (get_or (entry i).args.wanted.now i.before.loop-p.p 0) (entry i).requires.1 (inside i) (start_is i ∙ w.0.taken) (wanted_is i) w.2.taken w.5.ensures))
+          (fill_put t (get_or (entry i).args.wanted.now i.loop-p.p 0) (entry i).requires.1 (inside i) (start_is i ∙ w.0.taken) (wanted_is i) w.2.taken w.5.ensures))
           (λ v. ⊎_elim
           (λ w. rw (w.3, w.4) (fill_blank t (start_is i ∙ w.0.taken) (wanted_is i ∙ w.2.left)))
           (λ w. rw (w.1, w.2) (fill_placed t (λ e. w.0.left (sym (start_is i) ∙ e)))) v)
-          c.if-starts-p.branch,
+          c.if-starts-p.branch-raw,
     )
 
 shape_of-rows : tie.Need-shape_of-rows invariant-loop-p decreases-loop-p
 shape_of-rows c =
-    let t = c.before.loop-p.invariant.1 in
-    rest_length c.before.before.before.before.before.requires.0 t.board t.rest
+    let t = c.loop-p.invariant.1 in
+    rest_length c.requires.0 t.board t.rest
 
 returns : tie.Need-returns invariant-loop-p decreases-loop-p
 returns c =
     let s = c.before.before.before.before.before in
-    let e : c.before.loop-p.p ≡ size (loop_of s.args.file.now) = omega (arith, c.before.before.op_count-n.ensures) in
-    fill_end s.requires.1 (rw (← e) c.before.loop-p.invariant.1)
+    let e : c.loop-p.p ≡ size (loop_of s.args.file.now) = omega (arith, c.op_count-n.ensures) in
+    fill_end s.requires.1 (rw (← e) c.loop-p.invariant.1)
 
 pub put_missing_spec : {M : Type 1} → statement M
 put_missing_spec =

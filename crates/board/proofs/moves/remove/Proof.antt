@@ -15,13 +15,13 @@ use Rattle.board.proofs.moves.remove.Statement.{statement}
 use Rattle.board.proofs.moves.remove.Tie as tie
 
 slice_bounds-file-end : tie.Need-slice_bounds-file-end
-slice_bounds-file-end c = let s = c.before.before.before in sym (length-take-le s.args.length- s.args.store.now s.requires.0)
+slice_bounds-file-end c = let s = c.before.before in sym (length-take-le s.args.length- s.args.store.now s.requires.0)
 
 removable-checked-requires : tie.Need-removable-checked-requires
-removable-checked-requires c κs = let b = c.before.before.before.before.requires.1 in record { accepted = b.accepted; whole = b.sane.whole }
+removable-checked-requires c κs = let b = c.requires.1 in record { accepted = b.accepted; whole = b.sane.whole }
 
 abbrev start : tie.After-removable-checked → tie.Start
-start c = c.before.before.before.before.before
+start c = c.before.before.before
 
 -- the file
 abbrev file : tie.Start → List ℕ
@@ -38,20 +38,20 @@ passed_on-requires c κs = omega arith
 
 returns-in_default : tie.Need-returns-in_default
 returns-in_default c h b =
-    let k = c.before.before.before in
+    let k = c.before.before in
     let s = start k in
-    did_passed b (remove s.args.op) k.removable-checked.ensures c.before.enum_told-in_default-1.given.1 c.passed_on.ensures
+    did_passed b (remove s.args.op) k.removable-checked.ensures c.in_default.is c.passed_on.ensures
 
 -- nothing is against it
 fine : (c : tie.In-Fine) → let s = start c.before.before in
     first_refusal (checks (setup_as (file s) 0 0) (remove s.args.op) (bare (file s) s.args.starts.now)) ≡ none
-fine c = sym c.before.before.removable-checked.ensures ∙ ap refusal_of c.enum_told-1.given.1
+fine c = sym c.before.before.removable.ensures ∙ ap refusal_of c.enum_told.given.1
 
 lift-requires : tie.Need-lift-requires
 lift-requires c κs =
     let e = c.before.before in
-    let s = start e.before.before in
-    let b = s.pre.1 in
+    let s = start e.before in
+    let b = s.requires.1 in
     (b, remove_inside b s.args.op (fine e), remove_placed b s.args.op (fine e))
 
 shape_of-rows : tie.Need-shape_of-rows
@@ -61,7 +61,7 @@ returns : tie.Need-returns
 returns c h b =
     let u = c.before.before in
     let e = u.before.before.before in
-    let s = start e.before.before in
+    let s = start e.before in
     did_remove b s.args.op (fine e) u.lift.ensures
 
 pub remove_spec : {M : Type 1} → statement M

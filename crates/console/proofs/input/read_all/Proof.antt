@@ -30,7 +30,7 @@ shape_of-bytes-in-Ended c = omega arith
 
 returns-in-Ended : tie.Need-returns-in-Ended invariant-loop-turns decreases-loop-turns
 returns-in-Ended c =
-    let r = c.before.before.before.before.read_once-step in
+    let r = c.read_once-step in
     let l : r.result.have ≤ length r.new.0 = omega arith in
     ((l, sym (length-take-le r.result.have r.new.0 l)), omega arith)
 
@@ -42,7 +42,7 @@ shape_of-bytes-in-Failed c = omega arith
 
 returns-in-Failed : tie.Need-returns-in-Failed invariant-loop-turns decreases-loop-turns
 returns-in-Failed c =
-    let r = c.before.before.before.before.read_once-step in
+    let r = c.read_once-step in
     let l : r.result.have ≤ length r.new.0 = omega arith in
     ((l, sym (length-take-le r.result.have r.new.0 l)), omega arith)
 
@@ -60,9 +60,9 @@ shape_of-bytes c = omega arith
 
 returns : tie.Need-returns invariant-loop-turns decreases-loop-turns
 returns c =
-    let g = c.before.loop-turns in
-    let l : g.have ≤ length g.bytes-1 = omega arith in
-    ((l, sym (length-take-le g.have g.bytes-1 l)), omega arith)
+    let g = c.loop-turns in
+    let l : g.have ≤ length g.bytes = omega arith in
+    ((l, sym (length-take-le g.have g.bytes l)), omega arith)
 
 pub read_all_spec : {M : Type 1} → statement M
 read_all_spec =

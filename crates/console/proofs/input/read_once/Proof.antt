@@ -40,8 +40,8 @@ shape_of-bytes c = omega arith
 returns-in-Ok : tie.Need-returns-in-Ok
 returns-in-Ok c =
     let t = c.before.before in
-    let a = t.before.before.before.before.before.before.before.before.before.before.before.before.args in
-    put_within a.bytes-1.now a.have _ t.text-next.ensures (omega arith)
+    let a = t.args in
+    put_within a.bytes.now a.have _ t.text-next.ensures (omega arith)
 
 pub read_once_spec : {M : Type 1} → statement M
 read_once_spec =

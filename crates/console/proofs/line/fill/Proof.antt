@@ -4,8 +4,8 @@ use mathlib.Core.Path.{◌≡◌, refl}
 use Prim.Native.Nat.{◌-◌, ◌≤◌}
 use native.Mathlib.Omega.{arith}
 use lib.ListN.{length}
-use Rattle.console.proofs.line-1.fill.Statement.{statement}
-use Rattle.console.proofs.line-1.fill.Tie as tie
+use Rattle.console.proofs.line.fill.Statement.{statement}
+use Rattle.console.proofs.line.fill.Tie as tie
 
 abbrev invariant-loop-i : tie.invariant-loop-i
 invariant-loop-i line₀ template numbers at₀ next₀ i₀ line at next i = (next ≤ i) × (i ≤ length template) × (length line ≡ length line₀)
@@ -38,7 +38,7 @@ loop-i-smaller : tie.Need-loop-i-smaller invariant-loop-i decreases-loop-i
 loop-i-smaller c = omega arith
 
 loop-i-preserved : tie.Need-loop-i-preserved invariant-loop-i decreases-loop-i
-loop-i-preserved c = ⊎_elim (λ w. omega arith) (λ w. omega arith) c.if-template-i-eq37.branch
+loop-i-preserved c = ⊎_elim (λ w. omega arith) (λ w. omega arith) c.if-template-i-eq37.branch-raw
 
 shape_of-line : tie.Need-shape_of-line invariant-loop-i decreases-loop-i
 shape_of-line c = omega arith

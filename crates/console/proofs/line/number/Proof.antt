@@ -1,8 +1,8 @@
 -- `line::number` meets its contract: two calls of `text`, with what `io::decimal` says of the digits (`numbered`). Assumes nothing.
 use native.Mathlib.Omega.{arith}
 use Rattle.console.proofs.Lines.{numbered}
-use Rattle.console.proofs.line-1.number.Statement.{statement}
-use Rattle.console.proofs.line-1.number.Tie as tie
+use Rattle.console.proofs.line.number.Statement.{statement}
+use Rattle.console.proofs.line.number.Tie as tie
 
 decimal-k-requires : tie.Need-decimal-k-requires
 decimal-k-requires c κs = tt
@@ -27,8 +27,8 @@ returns c =
     let second = c.before.before in
     let first = second.before.before.before.before.before in
     let d = first.before.before in
-    let a = d.before.before.before.before.args in
-    numbered a.line-1.now a.at a.bytes.now a.n d.decimal-k.result d.decimal-k.ensures.1.0 d.decimal-k.ensures.1.1 first.text-next.ensures second.text.ensures
+    let a = d.args in
+    numbered a.line.now a.at a.bytes.now a.n d.decimal-k.result d.decimal-k.ensures.1.0 d.decimal-k.ensures.1.1 first.text-next.ensures second.text.ensures
 
 pub number_spec : {M : Type 1} → statement M
 number_spec =

@@ -21,7 +21,7 @@ room-n-requires c κs = tt
 
 loop-i-init : tie.Need-loop-i-init invariant-loop-i decreases-loop-i
 loop-i-init c =
-    let a = c.before.before.before.args in
+    let a = c.args in
     (omega arith, paste-zero a.line.now a.at a.bytes.now, refl)
 
 bounds-bytes-i : tie.Need-bounds-bytes-i invariant-loop-i decreases-loop-i
@@ -42,7 +42,7 @@ loop-i-smaller c = omega arith
 loop-i-preserved : tie.Need-loop-i-preserved invariant-loop-i decreases-loop-i
 loop-i-preserved c =
     let g = c.before.before in
-    let a = g.before.before.before.before.args in
+    let a = g.args in
     let j = g.loop-i.i in (
       omega arith,
       ap (λ (l : List ℕ). set l (a.at + j) (get_or a.bytes.now j 0)) g.loop-i.invariant.1
@@ -60,10 +60,10 @@ shape_of-line c = omega arith
 returns : tie.Need-returns invariant-loop-i decreases-loop-i
 unfolding written after
 returns c =
-    let a = c.before.before.before.before.before.args in
-    let whole = c.before.before.room-n.ensures in
-    let done : c.before.loop-i.i ≡ c.before.before.room-n.result = omega arith in
-    (ap (λ (n : ℕ). a.at + n) whole, c.before.loop-i.invariant.1 ∙ ap (paste a.line.now a.at a.bytes.now) (done ∙ whole))
+    let a = c.args in
+    let whole = c.room-n.ensures in
+    let done : c.loop-i.i ≡ c.room-n.result = omega arith in
+    (ap (λ (n : ℕ). a.at + n) whole, c.loop-i.invariant.1 ∙ ap (paste a.line.now a.at a.bytes.now) (done ∙ whole))
 
 pub text_spec : {M : Type 1} → statement M
 text_spec =

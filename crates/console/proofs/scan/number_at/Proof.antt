@@ -15,8 +15,8 @@ take_digits-requires c κs = tt
 returns : tie.Need-returns
 unfolding value_at next_at
 returns c =
-    let text = c.before.before.before.args.text.now in
-    let begins = c.before.skip-start.ensures in
+    let text = c.args.text.now in
+    let begins = c.skip-start.ensures in
     let took = c.take_digits.ensures in
     (took.0 ∙ ap (λ (s : ℕ). value_from 0 (drop s text)) begins, took.1 ∙ ap (λ (s : ℕ). s + figures (drop s text)) begins)
 

@@ -39,7 +39,7 @@ loop-i-smaller c = omega arith
 loop-i-preserved : tie.Need-loop-i-preserved invariant-loop-i decreases-loop-i
 loop-i-preserved c =
     let g = c.before.before in
-    let a = g.before.before.before.args in
+    let a = g.args in
     let j = g.loop-i.i in
     let text = a.text.now in
     let read = c.number_at-s in (
@@ -56,7 +56,7 @@ shape_of-list c = omega arith
 returns : tie.Need-returns invariant-loop-i decreases-loop-i
 returns c =
     let g = c.before in
-    let a = g.before.before.before.args in
+    let a = g.args in
     let done : g.loop-i.i ≡ length a.list.now = omega arith in (
       g.loop-i.invariant.1 ∙ ap (λ (n : ℕ). places n a.text.now a.at) done,
       g.loop-i.invariant.2

@@ -25,7 +25,7 @@ returns-then-text-i-ne32 : tie.Need-returns-then-text-i-ne32 invariant-loop-i de
 unfolding begin
 returns-then-text-i-ne32 c =
     let g = c.before.before.before in
-    omega (arith, g.loop-i.invariant, not_blank g.before.args.text.now g.loop-i.i (omega arith) (ne_eqb _ _ c.if-text-i-ne32.true))
+    omega (arith, g.loop-i.invariant, not_blank g.args.text.now g.loop-i.i (omega arith) (ne_eqb _ _ c.if-text-i-ne32.true))
 
 overflow_add-i : tie.Need-overflow_add-i invariant-loop-i decreases-loop-i
 overflow_add-i c = omega arith
@@ -36,11 +36,11 @@ loop-i-smaller c = omega arith
 loop-i-preserved : tie.Need-loop-i-preserved invariant-loop-i decreases-loop-i
 loop-i-preserved c =
     let g = c.before.before.before in
-    omega (arith, g.loop-i.invariant, blank g.before.args.text.now g.loop-i.i (omega arith) c.if-text-i-ne32.false)
+    omega (arith, g.loop-i.invariant, blank g.args.text.now g.loop-i.i (omega arith) c.if-text-i-ne32.false)
 
 returns : tie.Need-returns invariant-loop-i decreases-loop-i
 unfolding begin
-returns c = omega (arith, c.before.loop-i.invariant, (at_end c.before.before.args.text.now c.before.loop-i.i 0 (omega arith)).0)
+returns c = omega (arith, c.loop-i.invariant, (at_end c.args.text.now c.loop-i.i 0 (omega arith)).0)
 
 pub skip_spec : {M : Type 1} → statement M
 skip_spec =

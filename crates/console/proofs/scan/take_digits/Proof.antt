@@ -25,7 +25,7 @@ bounds-text-i c = omega arith
 returns-then-b-lt48 : tie.Need-returns-then-b-lt48 invariant-loop-i decreases-loop-i
 returns-then-b-lt48 c =
     let g = c.before.before.before in
-    let text = g.before.before.args.text.now in
+    let text = g.args.text.now in
     let other : is_figure (get_or text g.loop-i.i 0) ≡ false = simp (lt-leb 48 (get_or text g.loop-i.i 0) (omega arith)) in
     let s = no_figure text g.loop-i.i g.loop-i.n (omega arith) other in
     (sym s.1 ∙ g.loop-i.invariant.1, omega (arith, g.loop-i.invariant.0, s.0))
@@ -33,7 +33,7 @@ returns-then-b-lt48 c =
 returns-then-b-gt57 : tie.Need-returns-then-b-gt57 invariant-loop-i decreases-loop-i
 returns-then-b-gt57 c =
     let g = c.before.before.before.before in
-    let text = g.before.before.args.text.now in
+    let text = g.args.text.now in
     let other : is_figure (get_or text g.loop-i.i 0) ≡ false =
     simp (le-leb 48 (get_or text g.loop-i.i 0) (omega arith), lt-leb (get_or text g.loop-i.i 0) 57 (omega arith))
     in
@@ -52,7 +52,7 @@ loop-i-smaller c = omega arith
 loop-i-preserved : tie.Need-loop-i-preserved invariant-loop-i decreases-loop-i
 loop-i-preserved c =
     let g = c.before.before.before.before.before in
-    let text = g.before.before.args.text.now in
+    let text = g.args.text.now in
     let f = figure text g.loop-i.i (omega arith) (omega arith) (omega arith) in (
       omega (arith, g.loop-i.invariant.0, f),
       ap (λ (v : ℕ). value_from v (drop (g.loop-i.i + 1) text)) c.with_digit-n.ensures
@@ -63,7 +63,7 @@ loop-i-preserved c =
 returns : tie.Need-returns invariant-loop-i decreases-loop-i
 returns c =
     let g = c.before in
-    let s = at_end g.before.before.args.text.now g.loop-i.i g.loop-i.n (omega arith) in
+    let s = at_end g.args.text.now g.loop-i.i g.loop-i.n (omega arith) in
     (sym s.2 ∙ g.loop-i.invariant.1, omega (arith, g.loop-i.invariant.0, s.1))
 
 pub take_digits_spec : {M : Type 1} → statement M

@@ -24,7 +24,7 @@ abbrev decreases-loop-j : tie.decreases-loop-j
 decreases-loop-j file op first start interval rows n j₀ j = n - j
 
 use_count-n-requires : tie.Need-use_count-n-requires invariant-loop-j decreases-loop-j
-use_count-n-requires c κs = let p = c.before.before.requires.0 in (p.accepted, p.inside)
+use_count-n-requires c κs = let p = c.requires.0 in (p.accepted, p.inside)
 
 loop-j-init : tie.Need-loop-j-init invariant-loop-j decreases-loop-j
 loop-j-init c = (omega arith, λ i l. absurd (omega arith))
@@ -42,17 +42,17 @@ here : (c : tie.In-loop-j invariant-loop-j decreases-loop-j)
 here c =
     let h = c.before in
     let p = (start h).requires.0 in
-    use_here _ (start h).args.op h.loop-j.j (start h).args.first h.before.use_count-n.result p.accepted p.inside p.first_is h.before.use_count-n.ensures c.loop-j-test.true
+    use_here _ (start h).args.op h.loop-j.j (start h).args.first h.use_count-n.result p.accepted p.inside p.first_is h.use_count-n.ensures c.loop-j-test.true
 
-inside : (c : tie.In-loop-j invariant-loop-j decreases-loop-j) → c.before.loop-j.j < length (uses c.before)
-inside c = omega (arith, c.before.before.use_count-n.ensures, c.loop-j-test.true)
+inside : (c : tie.In-loop-j invariant-loop-j decreases-loop-j) → c.loop-j.j < length (uses c.before)
+inside c = omega (arith, c.use_count-n.ensures, c.loop-j-test.true)
 
 overflow_add-first : tie.Need-overflow_add-first invariant-loop-j decreases-loop-j
 overflow_add-first c = omega (arith, (here c).small)
 
 use_excluded-k-requires : tie.Need-use_excluded-k-requires invariant-loop-j decreases-loop-j
 use_excluded-k-requires c κs =
-    let s = start c.before in let p = s.pre.0 in (p.accepted, (here c).inside, s.pre.1, p.some, p.short, p.long)
+    let s = start c.before in let p = s.requires.0 in (p.accepted, (here c).inside, s.requires.1, p.some, p.short, p.long)
 
 -- what the call says of that use
 told : (c : tie.After-use_excluded-k invariant-loop-j decreases-loop-j)
@@ -64,13 +64,13 @@ told c =
     subst (λ (u : Use). UseExcluded a.interval a.rows.now a.start u c.use_excluded-k.result) (here c.before).is c.use_excluded-k.ensures
 
 returns-then-k-gt0 : tie.Need-returns-then-k-gt0 invariant-loop-j decreases-loop-j
-returns-then-k-gt0 c = let i = c.before.before in use_excludes _ _ _ (uses i.before) i.before.loop-j.j _ (inside i) c.if-k-gt0.true (told c.before)
+returns-then-k-gt0 c = let i = c.before.before in use_excludes _ _ _ (uses i.before) i.loop-j.j _ (inside i) c.if-k-gt0.true (told c.before)
 
 overflow_add-j : tie.Need-overflow_add-j invariant-loop-j decreases-loop-j
 overflow_add-j c = omega (arith, inside c.before.before, (start c.before.before.before).fits.op)
 
 loop-j-smaller : tie.Need-loop-j-smaller invariant-loop-j decreases-loop-j
-loop-j-smaller c = omega (arith, c.before.before.loop-j-test.true)
+loop-j-smaller c = omega (arith, c.loop-j-test.true)
 
 loop-j-preserved : tie.Need-loop-j-preserved invariant-loop-j decreases-loop-j
 loop-j-preserved c =
@@ -81,7 +81,7 @@ loop-j-preserved c =
 returns : tie.Need-returns invariant-loop-j decreases-loop-j
 returns c =
     let h = c.before in
-    uses_free _ _ _ (uses h) (λ j l. h.loop-j.invariant.1 j (omega (arith, c.loop-j-test.false, h.before.use_count-n.ensures)))
+    uses_free _ _ _ (uses h) (λ j l. h.loop-j.invariant.1 j (omega (arith, c.loop-j-test.false, h.use_count-n.ensures)))
 
 pub excluded_spec : {M : Type 1} → statement M
 excluded_spec =

@@ -25,19 +25,19 @@ abbrev start : tie.At-loop-s invariant-loop-s decreases-loop-s → tie.Start inv
 start h = h.before.before.before
 
 excluded-k-requires : tie.Need-excluded-k-requires invariant-loop-s decreases-loop-s
-excluded-k-requires c κs = let p = (start c.before).pre in (p.0, omega (arith, c.loop-s-test.true, p.2))
+excluded-k-requires c κs = let p = (start c.before).requires in (p.0, omega (arith, c.loop-s-test.true, p.2))
 
 returns-then-k-eq0 : tie.Need-returns-then-k-eq0 invariant-loop-s decreases-loop-s
 returns-then-k-eq0 c =
     let i = c.before.before in
     let h = i.before in
-    record { behind = h.loop-s.invariant.0; ahead = omega (arith, i.loop-s-test.true); free = λ l. c.before.excluded-k.ensures.free c.if-k-eq0.true; taken = h.loop-s.invariant.1 }
+    record { behind = h.loop-s.invariant.0; ahead = omega (arith, i.loop-s-test.true); free = λ l. c.excluded-k.ensures.free c.if-k-eq0.true; taken = h.loop-s.invariant.1 }
 
 overflow_add-s : tie.Need-overflow_add-s invariant-loop-s decreases-loop-s
-overflow_add-s c = let i = c.before.before in omega (arith, i.loop-s-test.true, (start i.before).pre.2, c.before.excluded-k.ensures.few)
+overflow_add-s c = let i = c.before.before in omega (arith, i.loop-s-test.true, (start i.before).requires.2, c.excluded-k.ensures.few)
 
 loop-s-smaller : tie.Need-loop-s-smaller invariant-loop-s decreases-loop-s
-loop-s-smaller c = omega (arith, c.before.before.loop-s-test.true, c.if-k-eq0.false)
+loop-s-smaller c = omega (arith, c.loop-s-test.true, c.if-k-eq0.false)
 
 loop-s-preserved : tie.Need-loop-s-preserved invariant-loop-s decreases-loop-s
 loop-s-preserved c =
@@ -46,13 +46,13 @@ loop-s-preserved c =
     pick : (c : tie.Else-k-eq0 invariant-loop-s decreases-loop-s) (t : ℕ)
         → let h = c.before.before.before in
         let a = (start h).args in
-        a.from ≤ t → t < h.loop-s.s + c.before.excluded-k.result → Dec (t < h.loop-s.s) → first_met row_base a.interval a.rows.now t (op_at (loop_of a.file.now) a.op).uses ≡ none → ⊥
-    pick c t l m (yes q) e = c.before.before.before.loop-s.invariant.1 t l q e
+        a.from ≤ t → t < h.loop-s.s + c.excluded-k.result → Dec (t < h.loop-s.s) → first_met row_base a.interval a.rows.now t (op_at (loop_of a.file.now) a.op).uses ≡ none → ⊥
+    pick c t l m (yes q) e = c.loop-s.invariant.1 t l q e
     pick c t l m (no q) e =
         let h = c.before.before.before in
         let a = (start h).args in
         let z : h.loop-s.s + (t - h.loop-s.s) ≡ t = omega arith in
-        c.before.excluded-k.ensures.taken (t - h.loop-s.s) (omega arith) (ap (λ (x : ℕ). first_met row_base a.interval a.rows.now x (op_at (loop_of a.file.now) a.op).uses) z ∙ e)
+        c.excluded-k.ensures.taken (t - h.loop-s.s) (omega arith) (ap (λ (x : ℕ). first_met row_base a.interval a.rows.now x (op_at (loop_of a.file.now) a.op).uses) z ∙ e)
 
 returns : tie.Need-returns invariant-loop-s decreases-loop-s
 returns c =

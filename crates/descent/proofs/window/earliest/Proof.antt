@@ -28,10 +28,10 @@ distance-requires c κs = search rules
 
 -- the interval times the distance
 abbrev lag : tie.After-distance → ℕ
-lag c = c.before.before.args.interval * c.distance.result
+lag c = c.args.interval * c.distance.result
 
 lag_small : (c : tie.After-distance) → lag c ≤ 4096 * 15
-lag_small c = lag_le c.before.before.args.interval (dep_ok c.before.before) c.before.before.requires.3 c.distance.ensures
+lag_small c = lag_le c.args.interval (dep_ok c.before.before) c.requires.3 c.distance.ensures
 
 overflow_mul-lag : tie.Need-overflow_mul-lag
 overflow_mul-lag c = omega (arith, lag_small c)
@@ -71,7 +71,7 @@ returns-then-due-lt0 c t =
     leb_same 0 t (a.start + plus d.delay) (t + lag c.before.before + minus d.delay)
     (λ l. omega (arith, below_zero (is_back w32 (overflow_sub-due c.before) (due_is c.before)) c.if-due-lt0.true))
     (λ l. omega arith)
-    ∙ holds_lag a.interval d a.start t c.before.before.distance.ensures
+    ∙ holds_lag a.interval d a.start t c.distance.ensures
 
 overflow_cast-result : tie.Need-overflow_cast-result
 overflow_cast-result c = cast_fits w64 (is_back w32 (overflow_sub-due c.before) (due_is c.before)) c.if-due-lt0.false (omega (arith, delay_late (dep_ok (start c.before))))
@@ -82,7 +82,7 @@ returns c t =
     let d = dep (start c.before) in
     let k = cast_is (is_back w32 (overflow_sub-due c.before) (due_is c.before)) c.if-due-lt0.false in
     leb_same _ t (a.start + plus d.delay) (t + lag c.before.before + minus d.delay) (λ l. omega (arith, k)) (λ l. omega (arith, k))
-    ∙ holds_lag a.interval d a.start t c.before.before.distance.ensures
+    ∙ holds_lag a.interval d a.start t c.distance.ensures
 
 pub earliest_spec : {M : Type 1} → statement M
 earliest_spec =

@@ -17,7 +17,7 @@ abbrev decreases-loop-e : tie.decreases-loop-e
 decreases-loop-e file m links₀ e₀ links e = e
 
 dep_count-m-requires : tie.Need-dep_count-m-requires invariant-loop-e decreases-loop-e
-dep_count-m-requires c κs = c.before.requires
+dep_count-m-requires c κs = c.requires
 
 -- there are at most 256 dependences, between operations of the loop
 ok : (s : tie.Start invariant-loop-e decreases-loop-e) → LoopOk (loop_of s.args.file.now)
@@ -36,11 +36,11 @@ abbrev start : tie.At-loop-e invariant-loop-e decreases-loop-e → tie.Start inv
 start h = h.before.before.before
 
 -- the dependence of this turn
-here : (c : tie.In-loop-e invariant-loop-e decreases-loop-e) → c.before.loop-e.e - 1 < length (loop_of (start c.before).args.file.now).deps
-here c = omega (arith, c.loop-e-test.true, c.before.loop-e.invariant.within)
+here : (c : tie.In-loop-e invariant-loop-e decreases-loop-e) → c.loop-e.e - 1 < length (loop_of (start c.before).args.file.now).deps
+here c = omega (arith, c.loop-e-test.true, c.loop-e.invariant.within)
 
 later_end-o-requires : tie.Need-later_end-o-requires invariant-loop-e decreases-loop-e
-later_end-o-requires c κs = ((start c.before).pre, here c)
+later_end-o-requires c κs = ((start c.before).requires, here c)
 
 -- its later operation
 inside : (c : tie.After-later_end-o invariant-loop-e decreases-loop-e) → c.later_end-o.result < size (loop_of (start c.before.before).args.file.now)
@@ -49,7 +49,7 @@ inside c =
     let d = (ok (start h)).dep_ok (h.loop-e.e - 1) (here c.before) in omega (arith, c.later_end-o.ensures, d.source, d.target)
 
 -- the numbers are small
-small : (c : tie.After-later_end-o invariant-loop-e decreases-loop-e) → (c.later_end-o.result < 64) × (c.before.before.loop-e.e - 1 < 256)
+small : (c : tie.After-later_end-o invariant-loop-e decreases-loop-e) → (c.later_end-o.result < 64) × (c.loop-e.e - 1 < 256)
 small c = let s = start c.before.before in omega (arith, inside c, (ok s).few, here c.before, (ok s).sparse)
 
 offset_bounds-links-o : tie.Need-offset_bounds-links-o invariant-loop-e decreases-loop-e
@@ -77,7 +77,7 @@ bounds-links-o-in-loop-e : tie.Need-bounds-links-o-in-loop-e invariant-loop-e de
 bounds-links-o-in-loop-e c = omega (arith, small c)
 
 loop-e-smaller : tie.Need-loop-e-smaller invariant-loop-e decreases-loop-e
-loop-e-smaller c = omega (arith, c.before.loop-e-test.true)
+loop-e-smaller c = omega (arith, c.loop-e-test.true)
 
 loop-e-preserved : tie.Need-loop-e-preserved invariant-loop-e decreases-loop-e
 loop-e-preserved c =

@@ -24,14 +24,14 @@ start u = u.before.before.before
 -- what the laws ask for: the starts before op, and the ends of the dependence
 ends : (u : tie.After-target-to)
     → Narrowing (loop_of (start u).args.file.now) (start u).args.interval (start u).args.e (start u).args.op (start u).args.starts.now (start u).args.w.from (start u).args.w.to
-    u.before.source-from.result u.target-to.result
-ends u = record { room = (start u).requires.3; source = u.before.source-from.ensures; target = u.target-to.ensures }
+    u.source-from.result u.target-to.result
+ends u = record { room = (start u).requires.3; source = u.source-from.ensures; target = u.target-to.ensures }
 
 returns-then-too_late-eq0 : tie.Need-returns-then-too_late-eq0
-returns-then-too_late-eq0 c = let v = c.before.before in self_broken (ends v.before.before) _ v.before.if-from-op.true v.if-to-op.true c.before.too_late.ensures c.if-too_late-eq0.true
+returns-then-too_late-eq0 c = let v = c.before.before in self_broken (ends v.before.before) _ v.if-from-op.true v.if-to-op.true c.too_late.ensures c.if-too_late-eq0.true
 
 returns-then-to-op : tie.Need-returns-then-to-op
-returns-then-to-op c = let v = c.before.before in self_kept (ends v.before.before) _ v.before.if-from-op.true v.if-to-op.true c.before.too_late.ensures c.if-too_late-eq0.false
+returns-then-to-op c = let v = c.before.before in self_kept (ends v.before.before) _ v.if-from-op.true v.if-to-op.true c.too_late.ensures c.if-too_late-eq0.false
 
 -- there are at most 64 operations
 few : (s : tie.Start) → s.args.op < 64
@@ -48,28 +48,28 @@ early : (s : tie.Start) (p : ℕ) → p < s.args.op → get_or s.args.starts.now
 early s = s.requires.4
 
 overflow_cast-starts : tie.Need-overflow_cast-starts
-overflow_cast-starts c = let v = c.before in omega (arith, early (start v.before.before.before) v.before.before.before.target-to.result v.if-to-op-2.true)
+overflow_cast-starts c = let v = c.before in omega (arith, early (start v.before.before.before) v.target-to.result v.if-to-op-2.true)
 
 too_late-end-requires : tie.Need-too_late-end-requires
 too_late-end-requires c κs =
     let v = c.before in
     let s = start v.before.before.before in
-    (s.pre.0, s.pre.1, early s _ v.if-to-op-2.true, s.pre.5)
+    (s.requires.0, s.requires.1, early s _ v.if-to-op-2.true, s.requires.5)
 
 returns-then-end-w : tie.Need-returns-then-end-w
 returns-then-end-w c =
     let b = c.before.before in
     let v = b.before.before in
-    source_late (ends v.before.before.before) _ v.before.before.if-from-op.true v.if-to-op-2.true b.too_late-end.ensures c.if-end-w.true
+    source_late (ends v.before.before.before) _ v.if-from-op.true v.if-to-op-2.true b.too_late-end.ensures c.if-end-w.true
 
 returns-else-end-w : tie.Need-returns-else-end-w
 returns-else-end-w c =
     let b = c.before.before in
     let v = b.before.before in
-    source_kept (ends v.before.before.before) _ v.before.before.if-from-op.true v.if-to-op-2.true b.too_late-end.ensures c.if-end-w.false
+    source_kept (ends v.before.before.before) _ v.if-from-op.true v.if-to-op-2.true b.too_late-end.ensures c.if-end-w.false
 
 returns-else-to-op-2 : tie.Need-returns-else-to-op-2
-returns-else-to-op-2 c = let v = c.before in free_target (ends v.before.before) v.before.if-from-op.true v.if-to-op.false c.if-to-op-2.false
+returns-else-to-op-2 c = let v = c.before in free_target (ends v.before.before) v.if-from-op.true v.if-to-op.false c.if-to-op-2.false
 
 offset_bounds-starts-from : tie.Need-offset_bounds-starts-from
 offset_bounds-starts-from c = omega (arith, few (start c.before.before.before))
@@ -78,31 +78,31 @@ bounds-starts-from : tie.Need-bounds-starts-from
 bounds-starts-from c = omega (arith, few (start c.before.before.before))
 
 overflow_cast-starts-then-from-op-2 : tie.Need-overflow_cast-starts-then-from-op-2
-overflow_cast-starts-then-from-op-2 c = let v = c.before in omega (arith, early (start v.before.before.before) v.before.before.before.before.source-from.result v.if-from-op-2.true)
+overflow_cast-starts-then-from-op-2 c = let v = c.before in omega (arith, early (start v.before.before.before) v.source-from.result v.if-from-op-2.true)
 
 earliest-begin-requires : tie.Need-earliest-begin-requires
 earliest-begin-requires c κs =
     let v = c.before in
     let s = start v.before.before.before in
-    (s.pre.0, s.pre.1, early s _ v.if-from-op-2.true, s.pre.5)
+    (s.requires.0, s.requires.1, early s _ v.if-from-op-2.true, s.requires.5)
 
 returns-then-w-begin : tie.Need-returns-then-w-begin
 returns-then-w-begin c =
     let b = c.before.before in
     let v = b.before.before in
-    target_early (ends v.before.before.before) _ v.if-from-op-2.true v.before.if-to-op-3.true b.earliest-begin.ensures c.if-w-begin.true
+    target_early (ends v.before.before.before) _ v.if-from-op-2.true v.if-to-op-3.true b.earliest-begin.ensures c.if-w-begin.true
 
 returns-else-w-begin : tie.Need-returns-else-w-begin
 returns-else-w-begin c =
     let b = c.before.before in
     let v = b.before.before in
-    target_kept (ends v.before.before.before) _ v.if-from-op-2.true v.before.if-to-op-3.true b.earliest-begin.ensures c.if-w-begin.false
+    target_kept (ends v.before.before.before) _ v.if-from-op-2.true v.if-to-op-3.true b.earliest-begin.ensures c.if-w-begin.false
 
 returns-else-from-op-2 : tie.Need-returns-else-from-op-2
-returns-else-from-op-2 c = let v = c.before in free_source (ends v.before.before) v.before.if-from-op.false v.if-to-op-3.true c.if-from-op-2.false
+returns-else-from-op-2 c = let v = c.before in free_source (ends v.before.before) v.if-from-op.false v.if-to-op-3.true c.if-from-op-2.false
 
 returns-else-to-op-3 : tie.Need-returns-else-to-op-3
-returns-else-to-op-3 c = apart (ends c.before.before) c.before.if-from-op.false c.if-to-op-3.false
+returns-else-to-op-3 c = apart (ends c.before.before) c.if-from-op.false c.if-to-op-3.false
 
 pub narrowed_spec : {M : Type 1} → statement M
 narrowed_spec =

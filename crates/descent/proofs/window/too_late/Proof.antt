@@ -28,10 +28,10 @@ distance-requires c κs = search rules
 
 -- the interval times the distance
 abbrev lag : tie.After-distance → ℕ
-lag c = c.before.before.args.interval * c.distance.result
+lag c = c.args.interval * c.distance.result
 
 lag_small : (c : tie.After-distance) → lag c ≤ 4096 * 15
-lag_small c = lag_le c.before.before.args.interval (dep_ok c.before.before) c.before.before.requires.3 c.distance.ensures
+lag_small c = lag_le c.args.interval (dep_ok c.before.before) c.requires.3 c.distance.ensures
 
 overflow_mul-lag : tie.Need-overflow_mul-lag
 overflow_mul-lag c = omega (arith, lag_small c)
@@ -43,8 +43,8 @@ overflow_cast-last-2 : tie.Need-overflow_cast-last-2
 overflow_cast-last-2 c = omega (arith, lag_small c)
 
 -- the sum and `last` as differences of naturals
-sum_is : (c : tie.After-distance) → Is (to_z w32 c.before.before.args.start +ℤ to_z w32 (lag c)) (c.before.before.args.start + lag c) (0 + 0)
-sum_is c = is_add (is_cast w32 c.before.before.args.start (omega arith)) (is_cast w32 (lag c) (omega (arith, lag_small c)))
+sum_is : (c : tie.After-distance) → Is (to_z w32 c.args.start +ℤ to_z w32 (lag c)) (c.args.start + lag c) (0 + 0)
+sum_is c = is_add (is_cast w32 c.args.start (omega arith)) (is_cast w32 (lag c) (omega (arith, lag_small c)))
 
 overflow_add-last : tie.Need-overflow_add-last
 overflow_add-last c = is_fits w32 (sum_is c) (omega (arith, lag_small c)) (omega arith)
@@ -70,7 +70,7 @@ returns-then-last-lt0 c s =
     leb_same (suc s) 0 (s + plus d.delay) (a.start + lag c.before.before + minus d.delay)
     (λ l. omega arith)
     (λ l. omega (arith, below_zero (is_back w32 (overflow_sub-last c.before) (last_is c.before)) c.if-last-lt0.true))
-    ∙ holds_lag a.interval d s a.start c.before.before.distance.ensures
+    ∙ holds_lag a.interval d s a.start c.distance.ensures
 
 overflow_cast-result : tie.Need-overflow_cast-result
 overflow_cast-result c =
@@ -86,7 +86,7 @@ returns c s =
     let d = dep (start c.before) in
     let k = cast_is (is_back w32 (overflow_sub-last c.before) (last_is c.before)) c.if-last-lt0.false in
     leb_same (suc s) _ (s + plus d.delay) (a.start + lag c.before.before + minus d.delay) (λ l. omega (arith, k)) (λ l. omega (arith, k))
-    ∙ holds_lag a.interval d s a.start c.before.before.distance.ensures
+    ∙ holds_lag a.interval d s a.start c.distance.ensures
 
 pub too_late_spec : {M : Type 1} → statement M
 too_late_spec =

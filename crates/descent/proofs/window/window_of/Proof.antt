@@ -22,7 +22,7 @@ abbrev decreases-loop-e : tie.decreases-loop-e
 decreases-loop-e file links op starts interval horizon m w₀ e₀ w e = m - e
 
 dep_count-m-requires : tie.Need-dep_count-m-requires invariant-loop-e decreases-loop-e
-dep_count-m-requires c κs = c.before.requires.0
+dep_count-m-requires c κs = c.requires.0
 
 -- the loop is in order
 ok : (s : tie.Start invariant-loop-e decreases-loop-e) → LoopOk (loop_of s.args.file.now)
@@ -56,14 +56,14 @@ abbrev start : tie.At-loop-e invariant-loop-e decreases-loop-e → tie.Start inv
 start h = h.before.before.before.before
 
 -- e is a dependence
-here : (c : tie.In-loop-e invariant-loop-e decreases-loop-e) → c.before.loop-e.e-1 < length (loop_of (start c.before).args.file.now).deps
-here c = omega (arith, c.loop-e-test.true, c.before.before.before.dep_count-m.ensures)
+here : (c : tie.In-loop-e invariant-loop-e decreases-loop-e) → c.loop-e.e < length (loop_of (start c.before).args.file.now).deps
+here c = omega (arith, c.loop-e-test.true, c.dep_count-m.ensures)
 
 narrowed-w-requires : tie.Need-narrowed-w-requires invariant-loop-e decreases-loop-e
-narrowed-w-requires c κs = let p = (start c.before).pre in (p.0, here c, p.2, p.3, p.4, p.5)
+narrowed-w-requires c κs = let p = (start c.before).requires in (p.0, here c, p.2, p.3, p.4, p.5)
 
 -- one of at most 256
-small : (c : tie.In-loop-e invariant-loop-e decreases-loop-e) → c.before.loop-e.e-1 < 256
+small : (c : tie.In-loop-e invariant-loop-e decreases-loop-e) → c.loop-e.e < 256
 small c = omega (arith, here c, (ok (start c.before)).sparse)
 
 overflow_add-e : tie.Need-overflow_add-e invariant-loop-e decreases-loop-e
@@ -79,11 +79,11 @@ bounds-links-e c = omega (arith, small c.before)
 next : (c : tie.In-loop-e invariant-loop-e decreases-loop-e)
     → let h = c.before in
     let s = start h in
-    NextDep (loop_of s.args.file.now) s.args.op (h.loop-e.e-1 + 1) (get_or s.args.links.now (64 + h.loop-e.e-1) 0)
+    NextDep (loop_of s.args.file.now) s.args.op (h.loop-e.e + 1) (get_or s.args.links.now (64 + h.loop-e.e) 0)
 next c =
     let h = c.before in
     let s = start h in
-    subst (λ (o : ℕ). NextDep (loop_of s.args.file.now) o (h.loop-e.e-1 + 1) (get_or s.args.links.now (64 + h.loop-e.e-1) 0)) (h.loop-e.invariant.1 c.loop-e-test.true) (s.pre.1.next h.loop-e.e-1 (here c))
+    subst (λ (o : ℕ). NextDep (loop_of s.args.file.now) o (h.loop-e.e + 1) (get_or s.args.links.now (64 + h.loop-e.e) 0)) (h.loop-e.invariant.1 c.loop-e-test.true) (s.requires.1.next h.loop-e.e (here c))
 
 overflow_cast-e-in-loop-e : tie.Need-overflow_cast-e-in-loop-e invariant-loop-e decreases-loop-e
 overflow_cast-e-in-loop-e c = let i = c.before.before in omega (arith, (next i).within, (ok (start i.before)).sparse)
@@ -96,10 +96,10 @@ loop-e-preserved c =
     let i = c.before.before in
     let h = i.before in
     let s = start h in
-    let m = h.before.before.dep_count-m.ensures in (
+    let m = h.dep_count-m.ensures in (
       omega (arith, (next i).within, m),
       λ l. (next i).is (omega (arith, m)),
-      to_next _ _ s.args.op s.args.starts.now s.pre.3 _ _ _ (h.loop-e.e-1 + 1) _ (next i) (window_next _ _ _ _ h.loop-e.e-1 _ _ _ _ h.loop-e.invariant.2 c.before.narrowed-w.ensures),
+      to_next _ _ s.args.op s.args.starts.now s.requires.3 _ _ _ (h.loop-e.e + 1) _ (next i) (window_next _ _ _ _ h.loop-e.e _ _ _ _ h.loop-e.invariant.2 c.narrowed-w.ensures),
     )
 
 -- after the loop, the window is that of all dependences
@@ -109,7 +109,7 @@ whole : (c : tie.After-loop-e invariant-loop-e decreases-loop-e)
     WindowIs (loop_of a.file.now) a.interval (take a.op a.starts.now) a.horizon (length (loop_of a.file.now).deps) h.loop-e.w.from h.loop-e.w.to
 whole c =
     let h = c.before in
-    let n : h.loop-e.e-1 ≡ length (loop_of (start h).args.file.now).deps = omega (arith, h.before.before.dep_count-m.ensures, c.loop-e-test.false, h.loop-e.invariant.0) in
+    let n : h.loop-e.e ≡ length (loop_of (start h).args.file.now).deps = omega (arith, h.dep_count-m.ensures, c.loop-e-test.false, h.loop-e.invariant.0) in
     rw n at h.loop-e.invariant.2
 
 returns-then-w : tie.Need-returns-then-w invariant-loop-e decreases-loop-e

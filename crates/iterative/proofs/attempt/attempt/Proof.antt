@@ -10,7 +10,7 @@ clear_rows-requires c κs = omega arith
 put_all-requires : tie.Need-put_all-requires
 put_all-requires c κs =
     let e = c.before.before.before.before.before in
-    let p = e.before.before.before.before.requires in
+    let p = e.requires in
     (begins p e.clear_rows.ensures, p.is_size)
 
 shape_of-rows : tie.Need-shape_of-rows
@@ -20,7 +20,7 @@ returns : tie.Need-returns
 returns c =
     let s = c.before.before in
     let e = s.before.before.before.before.before.before in
-    attempted e.before.before.before.before.requires e.clear_rows.ensures s.put_all_lem.ensures
+    attempted e.requires e.clear_rows.ensures s.put_all.ensures
 
 pub attempt_spec : {M : Type 1} → statement M
 attempt_spec =

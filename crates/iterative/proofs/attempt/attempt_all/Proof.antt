@@ -14,10 +14,10 @@ abbrev decreases-loop-order : tie.decreases-loop-order
 decreases-loop-order file n interval horizon tries starts₀ rows₀ high early order₀ starts rows order = tries - order
 
 paths-requires : tie.Need-paths-requires invariant-loop-order decreases-loop-order
-paths-requires c κs = let q = c.before.before.before.requires in (q.accepted, q.numbers.short)
+paths-requires c κs = let q = c.requires in (q.accepted, q.numbers.short)
 
 paths-requires-2 : tie.Need-paths-requires-2 invariant-loop-order decreases-loop-order
-paths-requires-2 c κs = let q = c.before.before.before.before.before.requires in (q.accepted, q.numbers.short)
+paths-requires-2 c κs = let q = c.requires in (q.accepted, q.numbers.short)
 
 loop-order-init : tie.Need-loop-order-init invariant-loop-order decreases-loop-order
 loop-order-init c = (omega arith, untouched _ _)
@@ -31,8 +31,8 @@ attempt-requires c κs = let a = c.before.before.before.before.before in ready_a
 
 -- after an attempt
 left_by : (c : tie.After-attempt invariant-loop-order decreases-loop-order) → let s = (entry c.before.before.before.before.before.before).args in
-    Untouched s.starts.now s.rows-1.now c.attempt.new.1.1.1.1.1.1.1.0 c.attempt.new.1.1.1.1.1.1.1.1.0
-left_by c = untouched_again c.before.before.before.before.before.before.loop-order.invariant.1 c.attempt.ensures.untouched
+    Untouched s.starts.now s.rows.now c.attempt.new.1.1.1.1.1.1.1.0 c.attempt.new.1.1.1.1.1.1.1.1.0
+left_by c = untouched_again c.before.before.before.before.before.before.loop.invariant.1 c.attempt.ensures.untouched
 
 shape_of-rows-then-attempt : tie.Need-shape_of-rows-then-attempt invariant-loop-order decreases-loop-order
 shape_of-rows-then-attempt c = (left_by c.before.before.before).rows_length
@@ -50,10 +50,10 @@ loop-order-preserved : tie.Need-loop-order-preserved invariant-loop-order decrea
 loop-order-preserved c = (omega arith, left_by c.before.before.before)
 
 shape_of-rows : tie.Need-shape_of-rows invariant-loop-order decreases-loop-order
-shape_of-rows c = c.before.loop-order.invariant.1.rows_length
+shape_of-rows c = c.loop-order.invariant.1.rows_length
 
 returns : tie.Need-returns invariant-loop-order decreases-loop-order
-returns c = record { found = λ e. let z : ◌≡◌ {A = ℕ} 0 1 = cc in absurd (omega arith); untouched = c.before.loop-order.invariant.1 }
+returns c = record { found = λ e. let z : ◌≡◌ {A = ℕ} 0 1 = cc in absurd (omega arith); untouched = c.loop-order.invariant.1 }
 
 pub attempt_all_spec : {M : Type 1} → statement M
 attempt_all_spec =

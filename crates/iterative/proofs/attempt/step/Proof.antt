@@ -21,20 +21,20 @@ wide-requires : tie.Need-wide-requires
 wide-requires c κs = omega arith
 
 choose_start-start-requires : tie.Need-choose_start-start-requires
-choose_start-start-requires c κs = c.before.before.before.before.before.before.requires
+choose_start-start-requires c κs = c.requires
 
 shape_of-rows-then-horizon-start : tie.Need-shape_of-rows-then-horizon-start
 shape_of-rows-then-horizon-start c = omega arith
 
 returns-then-horizon-start : tie.Need-returns-then-horizon-start
-returns-then-horizon-start c = record { board = c.before.before.before.before.before.before.before.before.requires.0; rest = refl }
+returns-then-horizon-start c = record { board = c.requires.0; rest = refl }
 
 force-requires : tie.Need-force-requires
-force-requires c κs = let s = c.before.before.before.before.before.before.before.before.before.before in (omega arith, rw take-length s.requires.0)
+force-requires c κs = let s = c.before.before.before.before.before.before.before.before.before in (omega arith, rw take-length s.requires.0)
 
 -- the function's entry, from its end
 abbrev entry : tie.After-slice_known-2-1 → tie.Start
-entry c = c.before.before.before.before.before.before.before.before.before.before.before.before.before
+entry c = c.before.before.before.before.before.before.before.before.before.before.before.before
 
 overflow_add-again : tie.Need-overflow_add-again
 overflow_add-again c = omega arith
@@ -45,14 +45,14 @@ overflow_cast-again c = omega arith
 offset_bounds-again-op-2 : tie.Need-offset_bounds-again-op-2
 offset_bounds-again-op-2 c = omega (arith, inside (entry c))
 
-bounds-again-op-2 : tie.Need-bounds-again-op-2
+bounds-again-op-2 : tie.Need-element-write-preserved
 bounds-again-op-2 c = inside (entry c)
 
 shape_of-rows : tie.Need-shape_of-rows
 shape_of-rows c = omega arith
 
 returns : tie.Need-returns
-returns c = let d = c.before.before.force.ensures in record { board = rw take-length at d.board; rest = d.rest }
+returns c = let d = c.force.ensures in record { board = rw take-length at d.board; rest = d.rest }
 
 pub step_spec : {M : Type 1} → statement M
 step_spec =

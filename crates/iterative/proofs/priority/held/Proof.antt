@@ -20,10 +20,10 @@ abbrev decreases-loop-j : tie.decreases-loop-j
 decreases-loop-j file op first n sum₀ j₀ sum j = n - j
 
 first_use-first-requires : tie.Need-first_use-first-requires invariant-loop-j decreases-loop-j
-first_use-first-requires c κs = c.before.requires
+first_use-first-requires c κs = c.requires
 
 use_count-n-requires : tie.Need-use_count-n-requires invariant-loop-j decreases-loop-j
-use_count-n-requires c κs = c.before.before.requires
+use_count-n-requires c κs = c.requires
 
 loop-j-init : tie.Need-loop-j-init invariant-loop-j decreases-loop-j
 unfolding sum_of up_from
@@ -34,18 +34,18 @@ abbrev entry : tie.In-loop-j invariant-loop-j decreases-loop-j → tie.Start inv
 entry i = i.before.before.before.before.before
 
 -- the use whose turn it is
-here : (i : tie.In-loop-j invariant-loop-j decreases-loop-j) → UseHere (entry i).args.file.now (entry i).args.op i.before.loop-j.j (i.before.before.before.first_use-first.result + i.before.loop-j.j)
+here : (i : tie.In-loop-j invariant-loop-j decreases-loop-j) → UseHere (entry i).args.file.now (entry i).args.op i.loop-j.j (i.first_use-first.result + i.loop-j.j)
 here i =
     let s = entry i in
     let f = i.before.before.before in
-    use_here s.args.file.now s.args.op i.before.loop-j.j f.first_use-first.result i.before.before.use_count-n.result s.pre.0 s.pre.1 f.first_use-first.ensures
-    i.before.before.use_count-n.ensures i.loop-j-test.true
+    use_here s.args.file.now s.args.op i.loop-j.j f.first_use-first.result i.use_count-n.result s.requires.0 s.requires.1 f.first_use-first.ensures
+    i.use_count-n.ensures i.loop-j-test.true
 
 -- each use ends within 16 cycles
-short : (i : tie.In-loop-j invariant-loop-j decreases-loop-j) (k : ℕ) → k ≤ i.before.loop-j.j → (use_at (op_at (loop_of (entry i).args.file.now) (entry i).args.op) k).duration-sum ≤ 16
+short : (i : tie.In-loop-j invariant-loop-j decreases-loop-j) (k : ℕ) → k ≤ i.loop-j.j → (use_at (op_at (loop_of (entry i).args.file.now) (entry i).args.op) k).duration ≤ 16
 short i k l =
     let s = entry i in
-    omega (arith, (((accepted_ok s.args.file.now s.pre.0).op_ok s.args.op s.pre.1).each k (omega (arith, i.before.before.use_count-n.ensures))).ends)
+    omega (arith, (((accepted_ok s.args.file.now s.requires.0).op_ok s.args.op s.requires.1).each k (omega (arith, i.use_count-n.ensures))).ends)
 
 overflow_add-first : tie.Need-overflow_add-first invariant-loop-j decreases-loop-j
 overflow_add-first c = omega (arith, (here c).small)
@@ -54,14 +54,14 @@ duration-sum-requires : tie.Need-duration-sum-requires invariant-loop-j decrease
 duration-sum-requires c κs = ((entry c).requires.0, (here c).inside)
 
 -- what is added
-adds : (c : tie.After-duration-sum invariant-loop-j decreases-loop-j) → let s = entry c.before in c.duration-sum.result ≡ (use_at (op_at (loop_of s.args.file.now) s.args.op) c.before.before.loop-j.j).duration-sum
-adds c = c.duration-sum.ensures ∙ ap (λ (u : Use). u.duration-sum) (here c.before).is
+adds : (c : tie.After-duration-sum invariant-loop-j decreases-loop-j) → let s = entry c.before in c.duration.result ≡ (use_at (op_at (loop_of s.args.file.now) s.args.op) c.before.before.loop.j).duration
+adds c = c.duration.ensures ∙ ap (λ (u : Use). u.duration) (here c.before).is
 
 overflow_add-sum : tie.Need-overflow_add-sum invariant-loop-j decreases-loop-j
 overflow_add-sum c =
     let i = c.before in
-    let j = i.before.loop-j.j in
-    omega (arith, i.before.loop-j.invariant.1, adds c, short i j (omega arith), (here i).small, sum_most (λ k. (use_at (op_at (loop_of (entry i).args.file.now) (entry i).args.op) k).duration-sum) 16 0 j (λ k l m. short i k (omega arith)))
+    let j = i.loop-j.j in
+    omega (arith, i.loop-j.invariant.1, adds c, short i j (omega arith), (here i).small, sum_most (λ k. (use_at (op_at (loop_of (entry i).args.file.now) (entry i).args.op) k).duration) 16 0 j (λ k l m. short i k (omega arith)))
 
 overflow_add-j : tie.Need-overflow_add-j invariant-loop-j decreases-loop-j
 overflow_add-j c = omega arith
@@ -70,13 +70,13 @@ loop-j-smaller : tie.Need-loop-j-smaller invariant-loop-j decreases-loop-j
 loop-j-smaller c = omega arith
 
 loop-j-preserved : tie.Need-loop-j-preserved invariant-loop-j decreases-loop-j
-loop-j-preserved c = (omega arith, ap₂ ◌+◌ c.before.before.loop-j.invariant.1 (adds c) ∙ sym (sum_next _ c.before.before.loop-j.j))
+loop-j-preserved c = (omega arith, ap₂ ◌+◌ c.loop-j.invariant.1 (adds c) ∙ sym (sum_next _ c.loop-j.j))
 
 returns : tie.Need-returns invariant-loop-j decreases-loop-j
 returns c =
     let a = c.before in
     let s = a.before.before.before.before in
-    let e : a.loop-j.j ≡ length (op_at (loop_of s.args.file.now) s.args.op).uses = omega (arith, a.before.use_count-n.ensures) in
+    let e : a.loop-j.j ≡ length (op_at (loop_of s.args.file.now) s.args.op).uses = omega (arith, a.use_count-n.ensures) in
     rw e at a.loop-j.invariant.1
 
 pub held_spec : {M : Type 1} → statement M

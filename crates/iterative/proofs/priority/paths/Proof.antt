@@ -14,7 +14,7 @@ loop-r-init : tie.Need-loop-r-init invariant-loop-r decreases-loop-r
 loop-r-init c = omega arith
 
 round-requires : tie.Need-round-requires invariant-loop-r decreases-loop-r
-round-requires c κs = c.before.before.before.before.requires
+round-requires c κs = c.requires
 
 returns-then-not-round : tie.Need-returns-then-not-round invariant-loop-r decreases-loop-r
 returns-then-not-round c = tt

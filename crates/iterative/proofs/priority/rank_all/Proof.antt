@@ -30,7 +30,7 @@ noise-requires : tie.Need-noise-requires invariant-loop-o decreases-loop-o
 noise-requires c κs = tt
 
 overflow_add-far : tie.Need-overflow_add-far invariant-loop-o decreases-loop-o
-overflow_add-far c = omega (arith, c.noise.ensures, c.before.capped.ensures)
+overflow_add-far c = omega (arith, c.noise.ensures, c.capped.ensures)
 
 offset_bounds-early-o : tie.Need-offset_bounds-early-o invariant-loop-o decreases-loop-o
 offset_bounds-early-o c = omega arith
@@ -42,7 +42,7 @@ wide-requires-in-loop-o : tie.Need-wide-requires-in-loop-o invariant-loop-o decr
 wide-requires-in-loop-o c κs = omega arith
 
 held-requires : tie.Need-held-requires invariant-loop-o decreases-loop-o
-held-requires c κs = let p = c.before.before.before.before.before.before.before.before.before.requires in (p.0, omega arith)
+held-requires c κs = let p = c.requires in (p.0, omega arith)
 
 rank-requires : tie.Need-rank-requires invariant-loop-o decreases-loop-o
 rank-requires c κs = omega arith

@@ -9,10 +9,10 @@ use Rattle.iterative.proofs.priority.relax.Statement.{statement}
 use Rattle.iterative.proofs.priority.relax.Tie as tie
 
 source-from-requires : tie.Need-source-from-requires
-source-from-requires c κs = (c.before.requires.0, c.before.requires.1)
+source-from-requires c κs = (c.requires.0, c.requires.1)
 
 target-to-requires : tie.Need-target-to-requires
-target-to-requires c κs = let p = c.before.before.requires in (p.0, p.1)
+target-to-requires c κs = let p = c.requires in (p.0, p.1)
 
 -- the dependence is in range
 dep_ok : (s : tie.Start) → let l = loop_of s.args.file.now in DepOk (size l) (dep_at l s.args.e)
@@ -25,12 +25,12 @@ few s = (accepted_ok s.args.file.now s.requires.0).few
 far_inside : (j : tie.Joined-forward) → j.if-forward.far < 64
 far_inside j =
     let s = j.before.before.before.before in
-    ⊎_elim (λ w. omega (arith, (dep_ok s).source-from, few s)) (λ w. omega (arith, (dep_ok s).target-to, few s)) j.if-forward.branch
+    ⊎_elim (λ w. omega (arith, (dep_ok s).source, few s)) (λ w. omega (arith, (dep_ok s).target, few s)) j.if-forward.branch-raw
 
 near_inside : (j : tie.Joined-forward-2) → j.if-forward-2.near < 64
 near_inside j =
     let s = j.before.before.before.before.before in
-    ⊎_elim (λ w. omega (arith, (dep_ok s).target-to, few s)) (λ w. omega (arith, (dep_ok s).source-from, few s)) j.if-forward-2.branch
+    ⊎_elim (λ w. omega (arith, (dep_ok s).target, few s)) (λ w. omega (arith, (dep_ok s).source, few s)) j.if-forward-2.branch-raw
 
 offset_bounds-lengths-far : tie.Need-offset_bounds-lengths-far
 offset_bounds-lengths-far c = omega (arith, far_inside c.before.before)
@@ -45,7 +45,7 @@ capped-requires : tie.Need-capped-requires
 capped-requires c κs = omega arith
 
 earliest-v-requires : tie.Need-earliest-v-requires
-earliest-v-requires c κs = let p = c.before.before.before.before.before.before.before.before.before.requires in (p.0, p.1, omega arith, p.2)
+earliest-v-requires c κs = let p = c.requires in (p.0, p.1, omega arith, p.2)
 
 raise-requires : tie.Need-raise-requires
 raise-requires c κs = near_inside c.before.before.before.before.before.before

@@ -11,7 +11,7 @@ abbrev decreases-loop-e : tie.decreases-loop-e
 decreases-loop-e file interval forward lengths₀ m changed₀ e₀ lengths changed e = m - e
 
 dep_count-m-requires : tie.Need-dep_count-m-requires invariant-loop-e decreases-loop-e
-dep_count-m-requires c κs = c.before.requires.0
+dep_count-m-requires c κs = c.requires.0
 
 loop-e-init : tie.Need-loop-e-init invariant-loop-e decreases-loop-e
 loop-e-init c = omega arith
@@ -19,7 +19,7 @@ loop-e-init c = omega arith
 relax-rose-requires : tie.Need-relax-rose-requires invariant-loop-e decreases-loop-e
 relax-rose-requires c κs =
     let m = c.before.before.before in
-    let p = m.before.before.requires in
+    let p = m.requires in
     (p.0, omega (arith, m.dep_count-m.ensures), p.1)
 
 overflow_add-e : tie.Need-overflow_add-e invariant-loop-e decreases-loop-e

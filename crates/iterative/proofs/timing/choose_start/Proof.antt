@@ -9,11 +9,11 @@ width_of-width-requires : tie.Need-width_of-width-requires
 width_of-width-requires c κs = let s = c.before.before in (s.requires.0.accepted, s.requires.1)
 
 earliest_start-from-requires : tie.Need-earliest_start-from-requires
-earliest_start-from-requires c κs = let b = c.before.before.before.requires.0 in (b.accepted, b.numbers.short, (board_far b).sane)
+earliest_start-from-requires c κs = let b = c.requires.0 in (b.accepted, b.numbers.short, (board_far b).sane)
 
 first_free-s-requires : tie.Need-first_free-s-requires
 first_free-s-requires c κs =
-    let w = c.before.width_of_lem.ensures in
+    let w = c.width_of-width.ensures in
     let s = c.before.before.before.before in
     let b = s.requires.0 in
     (record { accepted = b.accepted; inside = s.requires.1; some = b.numbers.some; short = b.numbers.short; long = b.held.long; wide = w.1; narrow = w.2 }, b.numbers.far)
@@ -23,10 +23,10 @@ returns-then-s-horizon c =
     let f = c.before in
     let w = f.before.before in
     record {
-      width = w.width_of_lem.result;
-      width_is = w.width_of_lem.ensures.0;
-      from = f.before.earliest_start-from.result;
-      from_is = f.before.earliest_start-from.ensures;
+      width = w.width_of-width.result;
+      width_is = w.width_of-width.ensures.0;
+      from = f.earliest_start-from.result;
+      from_is = f.earliest_start-from.ensures;
       free = f.first_free-s.result;
       free_is = f.first_free-s.ensures;
       found = λ l. refl;
@@ -39,8 +39,8 @@ larger-requires c κs = omega arith
 to_grid-requires : tie.Need-to_grid-requires
 to_grid-requires c κs =
     let a = c.before.before.before.before in
-    let n = a.before.before.before.requires.0.numbers in
-    let w = a.width_of_lem.ensures in
+    let n = a.requires.0.numbers in
+    let w = a.width_of-width.ensures in
     (n.some, n.short, w.1, w.2, n.far)
 
 returns : tie.Need-returns
@@ -49,10 +49,10 @@ returns c =
     let f = g.before.before in
     let w = f.before.before in
     record {
-      width = w.width_of_lem.result;
-      width_is = w.width_of_lem.ensures.0;
-      from = f.before.earliest_start-from.result;
-      from_is = f.before.earliest_start-from.ensures;
+      width = w.width_of-width.result;
+      width_is = w.width_of-width.ensures.0;
+      from = f.earliest_start-from.result;
+      from_is = f.earliest_start-from.ensures;
       free = f.first_free-s.result;
       free_is = f.first_free-s.ensures;
       found = λ l. absurd (omega arith);

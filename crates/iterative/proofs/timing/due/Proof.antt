@@ -13,26 +13,26 @@ use Rattle.iterative.proofs.timing.due.Statement.{statement}
 use Rattle.iterative.proofs.timing.due.Tie as tie
 
 target-requires : tie.Need-target-requires
-target-requires c κs = let p = c.before.requires in (p.0, p.1)
+target-requires c κs = let p = c.requires in (p.0, p.1)
 
 returns-then-target-op : tie.Need-returns-then-target-op
-returns-then-target-op c = due_elsewhere (λ q. c.if-target-op.true (c.before.target.ensures ∙ q))
+returns-then-target-op c = due_elsewhere (λ q. c.if-target-op.true (c.target.ensures ∙ q))
 
 source-from-requires : tie.Need-source-from-requires
-source-from-requires c κs = let p = c.before.before.before.requires in (p.0, p.1)
+source-from-requires c κs = let p = c.requires in (p.0, p.1)
 
 returns-then-from-op : tie.Need-returns-then-from-op
-returns-then-from-op c = due_self (sym c.before.source-from.ensures ∙ c.if-from-op.true)
+returns-then-from-op c = due_self (sym c.source-from.ensures ∙ c.if-from-op.true)
 
 -- the function's entry, from where the source is known
 abbrev entry : tie.Else-from-op → tie.Start
 entry c = c.before.before.before.before.before
 
 -- the source is an operation
-inside : (c : tie.Else-from-op) → c.before.source-from.result < 64
+inside : (c : tie.Else-from-op) → c.source-from.result < 64
 inside c =
     let s = entry c in
-    omega (arith, c.before.source-from.ensures, ((accepted_ok s.args.file.now s.pre.0).dep_ok s.args.e s.pre.1).source-from, few_operations s.args.file.now s.pre.0)
+    omega (arith, c.source-from.ensures, ((accepted_ok s.args.file.now s.requires.0).dep_ok s.args.e s.requires.1).source, few_operations s.args.file.now s.requires.0)
 
 offset_bounds-starts-from : tie.Need-offset_bounds-starts-from
 offset_bounds-starts-from c = omega (arith, inside c)
@@ -44,13 +44,13 @@ wide-start-requires : tie.Need-wide-start-requires
 wide-start-requires c κs = omega arith
 
 -- its start
-start_is : (c : tie.After-wide-start) → let s = entry c.before.before in get_or s.args.starts.now (dep_at (loop_of s.args.file.now) s.args.e).src 65535 ≡ c.wide-start.result
+start_is : (c : tie.After-wide-start) → let s = entry c.before.before in get_or s.args.starts.now (dep_at (loop_of s.args.file.now) s.args.e).src 65535 ≡ c.wide.result
 start_is c =
     let k = c.before.before in
     let s = entry k in
-    ap (λ (o : ℕ). get_or s.args.starts.now o 65535) (sym k.before.source-from.ensures)
-    ∙ get_or_within s.args.starts.now k.before.source-from.result 65535 0 (omega (arith, inside k, s.pre.3.whole))
-    ∙ sym c.wide-start.ensures
+    ap (λ (o : ℕ). get_or s.args.starts.now o 65535) (sym k.before.source.ensures)
+    ∙ get_or_within s.args.starts.now k.before.source.result 65535 0 (omega (arith, inside k, s.requires.3.whole))
+    ∙ sym c.wide.ensures
 
 returns-then-start-eq65535 : tie.Need-returns-then-start-eq65535
 returns-then-start-eq65535 c = due_blank (start_is c.before ∙ c.if-start-eq65535.true)
@@ -59,7 +59,7 @@ earliest-requires : tie.Need-earliest-requires
 earliest-requires c κs =
     let w = c.before in
     let s = entry w.before.before in
-    (s.pre.0, s.pre.1, rw (start_is w) at (sane_near s.pre.3 _ (λ q. c.if-start-eq65535.false (sym (start_is w) ∙ q))), s.pre.2)
+    (s.requires.0, s.requires.1, rw (start_is w) at (sane_near s.requires.3 _ (λ q. c.if-start-eq65535.false (sym (start_is w) ∙ q))), s.requires.2)
 
 returns : tie.Need-returns
 returns c =
@@ -67,7 +67,7 @@ returns c =
     let w = e.before in
     let k = w.before.before in
     let t = k.before.before.before in
-    due_placed (sym t.target.ensures ∙ k.before.before.if-target-op.false) (λ q. k.if-from-op.false (k.before.source-from.ensures ∙ q)) (start_is w) e.if-start-eq65535.false c.earliest.ensures
+    due_placed (sym t.target.ensures ∙ k.if-target-op.false) (λ q. k.if-from-op.false (k.source-from.ensures ∙ q)) (start_is w) e.if-start-eq65535.false c.earliest.ensures
 
 pub due_spec : {M : Type 1} → statement M
 due_spec =

@@ -16,7 +16,7 @@ abbrev decreases-loop-e : tie.decreases-loop-e
 decreases-loop-e file op interval starts m from₀ e₀ from e = m - e
 
 dep_count-m-requires : tie.Need-dep_count-m-requires invariant-loop-e decreases-loop-e
-dep_count-m-requires c κs = c.before.requires.0
+dep_count-m-requires c κs = c.requires.0
 
 loop-e-init : tie.Need-loop-e-init invariant-loop-e decreases-loop-e
 loop-e-init c = (omega arith, earliest_first)
@@ -24,7 +24,7 @@ loop-e-init c = (omega arith, earliest_first)
 due-requires : tie.Need-due-requires invariant-loop-e decreases-loop-e
 due-requires c κs =
     let m = c.before.before in
-    let p = m.before.before.requires in
+    let p = m.requires in
     (p.0, omega (arith, m.dep_count-m.ensures), p.1, p.2)
 
 larger-from-requires : tie.Need-larger-from-requires invariant-loop-e decreases-loop-e
@@ -37,12 +37,12 @@ loop-e-smaller : tie.Need-loop-e-smaller invariant-loop-e decreases-loop-e
 loop-e-smaller c = omega arith
 
 loop-e-preserved : tie.Need-loop-e-preserved invariant-loop-e decreases-loop-e
-loop-e-preserved c = (omega arith, earliest_next c.before.before.before.loop-e.invariant.1 c.before.due.ensures c.larger-from.ensures)
+loop-e-preserved c = (omega arith, earliest_next c.loop-e.invariant.1 c.due.ensures c.larger-from.ensures)
 
 returns : tie.Need-returns invariant-loop-e decreases-loop-e
 returns c =
     let a = c.before in
-    let n : a.loop-e.e ≡ length (loop_of a.before.before.before.args.file.now).deps = omega (arith, a.before.dep_count-m.ensures) in
+    let n : a.loop-e.e ≡ length (loop_of a.args.file.now).deps = omega (arith, a.dep_count-m.ensures) in
     rw n at a.loop-e.invariant.1
 
 pub earliest_start_spec : {M : Type 1} → statement M

@@ -17,7 +17,7 @@ abbrev decreases-loop-s : tie.decreases-loop-s
 decreases-loop-s file op from interval horizon width rows first k₀ s₀ k s = horizon - s
 
 first_use-first-requires : tie.Need-first_use-first-requires invariant-loop-s decreases-loop-s
-first_use-first-requires c κs = let g = c.before.before.requires.0 in (g.accepted, g.inside)
+first_use-first-requires c κs = let g = c.requires.0 in (g.accepted, g.inside)
 
 loop-s-init : tie.Need-loop-s-init invariant-loop-s decreases-loop-s
 loop-s-init c = (omega arith, omega arith, λ t b a. absurd (omega arith))
@@ -28,7 +28,7 @@ returns-then-k-interval c = let a = c.before.before in record { within = omega a
 suits-requires : tie.Need-suits-requires invariant-loop-s decreases-loop-s
 suits-requires c κs =
     let f = c.before.before.before in
-    let p = f.before.before.before.requires in
+    let p = f.requires in
     (p.0, omega arith, f.first_use-first.ensures)
 
 returns-then-suits : tie.Need-returns-then-suits invariant-loop-s decreases-loop-s

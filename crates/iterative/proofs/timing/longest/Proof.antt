@@ -21,10 +21,10 @@ abbrev decreases-loop-j : tie.decreases-loop-j
 decreases-loop-j file op first n most₀ j₀ most j = n - j
 
 first_use-first-requires : tie.Need-first_use-first-requires invariant-loop-j decreases-loop-j
-first_use-first-requires c κs = c.before.requires
+first_use-first-requires c κs = c.requires
 
 use_count-n-requires : tie.Need-use_count-n-requires invariant-loop-j decreases-loop-j
-use_count-n-requires c κs = c.before.before.requires
+use_count-n-requires c κs = c.requires
 
 loop-j-init : tie.Need-loop-j-init invariant-loop-j decreases-loop-j
 unfolding max_of up_from
@@ -35,12 +35,12 @@ abbrev entry : tie.In-loop-j invariant-loop-j decreases-loop-j → tie.Start inv
 entry i = i.before.before.before.before.before
 
 -- the use whose turn it is
-here : (i : tie.In-loop-j invariant-loop-j decreases-loop-j) → UseHere (entry i).args.file.now (entry i).args.op i.before.loop-j.j (i.before.before.before.first_use-first.result + i.before.loop-j.j)
+here : (i : tie.In-loop-j invariant-loop-j decreases-loop-j) → UseHere (entry i).args.file.now (entry i).args.op i.loop-j.j (i.first_use-first.result + i.loop-j.j)
 here i =
     let s = entry i in
     let f = i.before.before.before in
-    use_here s.args.file.now s.args.op i.before.loop-j.j f.first_use-first.result i.before.before.use_count-n.result s.pre.0 s.pre.1 f.first_use-first.ensures
-    i.before.before.use_count-n.ensures i.loop-j-test.true
+    use_here s.args.file.now s.args.op i.loop-j.j f.first_use-first.result i.use_count-n.result s.requires.0 s.requires.1 f.first_use-first.ensures
+    i.use_count-n.ensures i.loop-j-test.true
 
 overflow_add-first : tie.Need-overflow_add-first invariant-loop-j decreases-loop-j
 overflow_add-first c = omega (arith, (here c).small)
@@ -62,20 +62,20 @@ loop-j-preserved c =
     let d = c.before in
     let i = d.before in
     let s = entry i in
-    let j = i.before.loop-j.j in
+    let j = i.loop-j.j in
     let f = s.args.file.now in
     let p = op_at (loop_of f) s.args.op in
     let turn : d.duration.result ≡ (use_at p j).duration = d.duration.ensures ∙ ap (λ (u : Use). u.duration) (here i).is in
     let next : max_of (λ k. (use_at p k).duration) (up_from 0 (j + 1)) ≡ _ = max_next (λ k. (use_at p k).duration) 0 j in
     let zero-j : (use_at p (0 + j)).duration ≡ (use_at p j).duration = ap (λ (k : ℕ). (use_at p k).duration) (zero-add j) in
-    let short = (((accepted_ok f s.pre.0).op_ok s.args.op s.pre.1).each j (omega (arith, i.before.before.use_count-n.ensures))).ends in
-    (omega arith, omega (arith, c.larger-most.ensures, turn, next, zero-j, i.before.loop-j.invariant.1), omega (arith, c.larger-most.ensures, turn, short, i.before.loop-j.invariant.2))
+    let short = (((accepted_ok f s.requires.0).op_ok s.args.op s.requires.1).each j (omega (arith, i.use_count-n.ensures))).ends in
+    (omega arith, omega (arith, c.larger-most.ensures, turn, next, zero-j, i.loop-j.invariant.1), omega (arith, c.larger-most.ensures, turn, short, i.loop-j.invariant.2))
 
 returns : tie.Need-returns invariant-loop-j decreases-loop-j
 returns c =
     let a = c.before in
     let s = a.before.before.before.before in
-    let e : a.loop-j.j ≡ length (op_at (loop_of s.args.file.now) s.args.op).uses = omega (arith, a.before.use_count-n.ensures) in
+    let e : a.loop-j.j ≡ length (op_at (loop_of s.args.file.now) s.args.op).uses = omega (arith, a.use_count-n.ensures) in
     (rw e at a.loop-j.invariant.1, a.loop-j.invariant.2)
 
 pub longest_spec : {M : Type 1} → statement M

@@ -6,7 +6,7 @@ use Rattle.iterative.proofs.timing.suits.Statement.{statement}
 use Rattle.iterative.proofs.timing.suits.Tie as tie
 
 on_grid-requires : tie.Need-on_grid-requires
-on_grid-requires c κs = let g = c.before.before.requires.0 in (g.some, g.short, g.wide, g.narrow)
+on_grid-requires c κs = let g = c.requires.0 in (g.some, g.short, g.wide, g.narrow)
 
 returns-then-not-on_grid : tie.Need-returns-then-not-on_grid
 returns-then-not-on_grid c =

@@ -18,7 +18,7 @@ loop-s-init : tie.Need-loop-s-init invariant-loop-s decreases-loop-s
 loop-s-init c = (omega arith, λ t l m. absurd (omega arith))
 
 on_grid-requires : tie.Need-on_grid-requires invariant-loop-s decreases-loop-s
-on_grid-requires c κs = let p = c.before.before.requires in (p.0, p.1, p.2, p.3)
+on_grid-requires c κs = let p = c.requires in (p.0, p.1, p.2, p.3)
 
 returns-then-on_grid : tie.Need-returns-then-on_grid invariant-loop-s decreases-loop-s
 returns-then-on_grid c =

@@ -6,10 +6,10 @@ use Rattle.iterative.proofs.timing.width_of.Statement.{statement}
 use Rattle.iterative.proofs.timing.width_of.Tie as tie
 
 longest-requires : tie.Need-longest-requires
-longest-requires c κs = c.before.before.requires
+longest-requires c κs = c.requires
 
 returns-then-gridded : tie.Need-returns-then-gridded
-returns-then-gridded c = let e = c.longest.ensures in (rw c.before.if-gridded.true e.0, omega (arith, e.0), e.1)
+returns-then-gridded c = let e = c.longest.ensures in (rw c.if-gridded.true e.0, omega (arith, e.0), e.1)
 
 returns : tie.Need-returns
 returns c = (rw c.if-gridded.false refl, omega arith, omega arith)

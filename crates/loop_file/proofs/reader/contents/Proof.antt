@@ -42,7 +42,7 @@ got {f} {s} {start} {n} {more} a g =
       bytes = a.bytes;
       past = a.past ∙ refusal_append (entry_checks f s start) more (fine_none (length_of f s) a.said (ap part_of g));
       is = v;
-      small = omega (arith, a.bytes (s.entry-first + 6), a.bytes (s.entry-first + 6 + 1));
+      small = omega (arith, a.bytes (s.entry + 6), a.bytes (s.entry + 6 + 1));
     }
 
 -- the answer was a refusal: it is that of the contents
@@ -68,48 +68,48 @@ grouped f = refl
 
 -- the file, at each entry's answer
 abbrev f1 : tie.After-entry-first → List ℕ
-f1 c = c.before.before.before.args.file.now
+f1 c = c.args.file.now
 
 abbrev f2 : tie.After-entry-second → List ℕ
-f2 c = f1 c.before.before.before.before.before
+f2 c = f1 c.before.before.before
 
 abbrev f3 : tie.After-entry-third → List ℕ
-f3 c = f2 c.before.before.before.before.before
+f3 c = f2 c.before.before.before
 
 first : (c : tie.After-entry-first) → Asked (f1 c) oper oper_at (past_one (f1 c)) c.entry-first.result
-first c = record { bytes = c.before.before.shared_slice_known-1.given; past = grouped (f1 c); said = c.entry-first.ensures }
+first c = record { bytes = c.shared_slice_known-1.given; past = grouped (f1 c); said = c.entry-first.ensures }
 
-got_first : (c : tie.In-Fine) → Got (f1 c.before.before.before) oper (past_one (f1 c.before.before.before)) c.before.first-1.given.0.0
-got_first c = got (first c.before.before.before) c.before.first-1.given.1
+got_first : (c : tie.In-Fine) → Got (f1 c.before) oper (past_one (f1 c.before)) c.in-Fine.oper
+got_first c = got (first c.before) c.in-Fine.is
 
 second : (c : tie.After-entry-second) → Asked (f2 c) uses (uses_at (f2 c)) (past_two (f2 c)) c.entry-second.result
 second c =
     let g = got_first c.before.before in
     record { bytes = g.bytes; past = g.past; said = rw g.is at c.entry-second.ensures }
 
-got_second : (c : tie.In-Fine-second) → Got (f2 c.before.before.before) uses (past_two (f2 c.before.before.before)) c.before.second-1.given.0.0
-got_second c = got (second c.before.before.before) c.before.second-1.given.1
+got_second : (c : tie.In-Fine-second) → Got (f2 c.before) uses (past_two (f2 c.before)) c.in-Fine-second.uses
+got_second c = got (second c.before) c.in-Fine-second.is
 
 third : (c : tie.After-entry-third) → Asked (f3 c) deps (deps_at (f3 c)) (past_three (f3 c)) c.entry-third.result
 third c =
     let g = got_second c.before.before in
-    record { bytes = g.bytes; past = g.past; said = rw ((got_first c.before.before.before.before.before.before.before).is, g.is) at c.entry-third.ensures }
+    record { bytes = g.bytes; past = g.past; said = rw ((got_first c.before.before.before.before.before).is, g.is) at c.entry-third.ensures }
 
-got_third : (c : tie.In-Fine-third) → Got (f3 c.before.before.before) deps (past_three (f3 c.before.before.before)) c.before.third-1.given.0.0
-got_third c = got (third c.before.before.before) c.before.third-1.given.1
+got_third : (c : tie.In-Fine-third) → Got (f3 c.before) deps (past_three (f3 c.before)) c.in-Fine-third.deps
+got_third c = got (third c.before) c.in-Fine-third.is
 
 -- the places past the first entry and past the second, seen from the last test; the sum of the three lengths is the last body's end, and fits
 module _ (c : tie.In-Fine-third) where
   abbrev two : tie.In-Fine-second
-  two = c.before.before.before.before.before
+  two = c.before.before.before
 
   abbrev one : tie.In-Fine
   one = two.before.before.before.before.before
 
-  ends : end_at (f3 c.before.before.before) ≡ 26 + one.before.first-1.given.0.0 + two.before.second-1.given.0.0 + c.before.third-1.given.0.0
+  ends : end_at (f3 c.before) ≡ 26 + one.before.first.given.0.0 + two.before.second.given.0.0 + c.in-Fine-third.deps
   ends = omega (arith, (got_first one).is, (got_second two).is, (got_third c).is)
 
-  small : one.before.first-1.given.0.0 + two.before.second-1.given.0.0 + c.before.third-1.given.0.0 < 196608
+  small : one.before.first.given.0.0 + two.before.second.given.0.0 + c.in-Fine-third.deps < 196608
   small = omega (arith, (got_first one).small, (got_second two).small, (got_third c).small)
 
 -- ---- the needs
@@ -124,7 +124,7 @@ enum_told-1 : tie.Need-enum_told-1
 enum_told-1 c = omega arith
 
 returns-in_default : tie.Need-returns-in_default
-returns-in_default c = refuse (first c.before.before) c.enum_told-1.given.1
+returns-in_default c = refuse (first c.before) c.in_default.is
 
 overflow_add-oper : tie.Need-overflow_add-oper
 overflow_add-oper c = omega (arith, (got_first c.before).small)
@@ -139,13 +139,13 @@ enum_told-in_default-second : tie.Need-enum_told-in_default-second
 enum_told-in_default-second c = omega arith
 
 returns-in_default-second : tie.Need-returns-in_default-second
-returns-in_default-second c = refuse (second c.before.before) c.enum_told-in_default-second-1.given.1
+returns-in_default-second c = refuse (second c.before) c.in_default-second.is
 
 overflow_add-oper-2 : tie.Need-overflow_add-oper-2
-overflow_add-oper-2 c = omega (arith, (got_first c.before.before.before.before.before.before).small)
+overflow_add-oper-2 c = omega (arith, (got_first c.before.before.before.before).small)
 
 overflow_add-oper-3 : tie.Need-overflow_add-oper-3
-overflow_add-oper-3 c = omega (arith, (got_first c.before.before.before.before.before.before).small, (got_second c.before).small)
+overflow_add-oper-3 c = omega (arith, (got_first c.before.before.before.before).small, (got_second c.before).small)
 
 entry-third-requires : tie.Need-entry-third-requires
 entry-third-requires c κs = omega arith
@@ -157,7 +157,7 @@ enum_told-in_default-third : tie.Need-enum_told-in_default-third
 enum_told-in_default-third c = omega arith
 
 returns-in_default-third : tie.Need-returns-in_default-third
-returns-in_default-third c = refuse (third c.before.before) c.enum_told-in_default-third-1.given.1
+returns-in_default-third c = refuse (third c.before) c.in_default-third.is
 
 overflow_add-oper-4 : tie.Need-overflow_add-oper-4
 overflow_add-oper-4 c = omega (arith, small c)

@@ -24,7 +24,7 @@ wide-requires c κs = tt
 
 returns-then-n-wide : tie.Need-returns-then-n-wide
 unfolding dep_checks first_refusal
-returns-then-n-wide c = rw (← c.before.wide.ensures.0, le-leb _ _ c.if-n-wide.true)
+returns-then-n-wide c = rw (← c.wide.ensures.0, le-leb _ _ c.if-n-wide.true)
 
 overflow_add-at : tie.Need-overflow_add-at
 overflow_add-at c = omega arith
@@ -42,7 +42,7 @@ returns-then-n-wide-2 : tie.Need-returns-then-n-wide-2
 unfolding dep_checks first_refusal
 returns-then-n-wide-2 c =
     let d = c.before.before.before in
-    rw (← d.before.wide.ensures.0, lt-leb _ _ d.if-n-wide.false, ← c.before.wide-2.ensures.0, le-leb _ _ c.if-n-wide-2.true)
+    rw (← d.wide.ensures.0, lt-leb _ _ d.if-n-wide.false, ← c.wide-2.ensures.0, le-leb _ _ c.if-n-wide-2.true)
 
 overflow_add-at-2 : tie.Need-overflow_add-at-2
 overflow_add-at-2 c = omega arith
@@ -61,12 +61,12 @@ ends : (c : tie.Else-n-wide-2) → let a = c.before.before.before.before.before.
     (leb a.n (byte_at a.file.now a.at) ≡ false) × (leb a.n (byte_at a.file.now (a.at + 1)) ≡ false)
 ends c =
     let d = c.before.before.before in
-    (rw (← d.before.wide.ensures.0) (lt-leb _ _ d.if-n-wide.false), rw (← c.before.wide-2.ensures.0) (lt-leb _ _ c.if-n-wide-2.false))
+    (rw (← d.before.wide.ensures.0) (lt-leb _ _ d.if1.false), rw (← c.before.wide2.ensures.0) (lt-leb _ _ c.if2.false))
 
 -- what the tests of the delay compare
 delay : (c : tie.After-signed-delay) → let a = c.before.before.before.before.before.before.before.before.before.args in
-    to_z w32 (of_z w32 c.signed-delay.result) ≡ signed_byte (byte_at a.file.now (a.at + 2))
-delay c = to_z-of_z w32 c.signed-delay.result (record { sfits = c.signed-delay.type_inv }) ∙ c.signed-delay.ensures
+    to_z w32 (of_z w32 c.signed.result) ≡ signed_byte (byte_at a.file.now (a.at + 2))
+delay c = to_z-of_z w32 c.signed.result (record { sfits = c.signed.type-inv }) ∙ c.signed.ensures
 
 returns-then-delay-ltminus64 : tie.Need-returns-then-delay-ltminus64
 unfolding dep_checks first_refusal
@@ -82,7 +82,7 @@ unfolding dep_checks first_refusal
 returns-then-delay-gt64 c =
     let p = ends c.before.before.before.before in
     let d = delay c.before.before in
-    rw (p.0, p.1, outside_range, rw d at c.before.if-delay-ltminus64.false, rw d at c.if-delay-gt64.true)
+    rw (p.0, p.1, outside_range, rw d at c.if-delay-ltminus64.false, rw d at c.if-delay-gt64.true)
 
 overflow_add-at-3 : tie.Need-overflow_add-at-3
 overflow_add-at-3 c = omega arith
@@ -99,7 +99,7 @@ delay_right : (c : tie.Else-delay-gt64) → let a = c.before.before.before.befor
     not (le_z (negsuc 63) z && le_z z (pos 64)) ≡ false
 delay_right c =
     let d = delay c.before.before in
-    rw (outside_range, rw d at c.before.if-delay-ltminus64.false, rw d at c.if-delay-gt64.false)
+    rw (outside_range, rw d at c.before.if3.false, rw d at c.if4.false)
 
 returns-then-file-at-gt15 : tie.Need-returns-then-file-at-gt15
 unfolding dep_checks first_refusal

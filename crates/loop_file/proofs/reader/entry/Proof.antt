@@ -17,7 +17,7 @@ tag_is-requires c κs = omega arith
 
 returns-then-not-tag_is : tie.Need-returns-then-not-tag_is
 unfolding first_refusal entry_checks
-returns-then-not-tag_is c = rw (← c.before.tag_is.ensures, c.if-not-tag_is.true)
+returns-then-not-tag_is c = rw (← c.tag_is.ensures, c.if-not-tag_is.true)
 
 overflow_add-at : tie.Need-overflow_add-at
 overflow_add-at c = omega arith
@@ -27,7 +27,7 @@ word-requires c κs = omega arith
 
 returns-then-word-start : tie.Need-returns-then-word-start
 unfolding first_refusal entry_checks
-returns-then-word-start c = rw (← c.before.before.before.tag_is.ensures, c.before.before.if-not-tag_is.false, ← c.before.word.ensures.0, ne_eqb _ _ c.if-word-start.true)
+returns-then-word-start c = rw (← c.tag_is.ensures, c.if-not-tag_is.false, ← c.word.ensures.0, ne_eqb _ _ c.if-word-start.true)
 
 overflow_add-at-2 : tie.Need-overflow_add-at-2
 overflow_add-at-2 c = omega arith
@@ -51,7 +51,7 @@ module _ (c : tie.After-word-n) where
 
   late : settle rest c.word-n.result ≡ settle (entry_checks a.args.file.now (section_as a.args.at (four_of a.args.tag.now) a.args.width a.args.least a.args.most) a.args.start) (word_at a.args.file.now (a.args.at + 6))
   unfolding first_refusal entry_checks
-  late = rw (← c.before.before.before.before.tag_is.ensures, c.before.before.before.if-not-tag_is.false, ← c.before.before.word.ensures.0, eq-eqb _ _ c.before.if-word-start.false, ← c.word-n.ensures.0)
+  late = rw (← c.tag_is.ensures, c.if-not-tag_is.false, ← c.word.ensures.0, eq-eqb _ _ c.if-word-start.false, ← c.word-n.ensures.0)
 
 returns-then-n-width-ne0 : tie.Need-returns-then-n-width-ne0
 unfolding first_refusal
@@ -62,18 +62,18 @@ nonzero_div-n c = omega arith
 
 returns-then-n-width : tie.Need-returns-then-n-width
 unfolding first_refusal
-returns-then-n-width c = rw (← late c.before.before, eq-eqb _ _ c.before.if-n-width-ne0.false, lt-ltb _ _ c.if-n-width.true)
+returns-then-n-width c = rw (← late c.before.before, eq-eqb _ _ c.if-n-width-ne0.false, lt-ltb _ _ c.if-n-width.true)
 
 nonzero_div-n-2 : tie.Need-nonzero_div-n-2
 nonzero_div-n-2 c = omega arith
 
 returns-then-most-n : tie.Need-returns-then-most-n
 unfolding first_refusal
-returns-then-most-n c = rw (← late c.before.before.before, eq-eqb _ _ c.before.before.if-n-width-ne0.false, le-ltb _ _ c.before.if-n-width.false, lt-ltb _ _ c.if-most-n.true)
+returns-then-most-n c = rw (← late c.before.before.before, eq-eqb _ _ c.if-n-width-ne0.false, le-ltb _ _ c.if-n-width.false, lt-ltb _ _ c.if-most-n.true)
 
 returns : tie.Need-returns
 unfolding first_refusal
-returns c = rw (← late c.before.before.before, eq-eqb _ _ c.before.before.if-n-width-ne0.false, le-ltb _ _ c.before.if-n-width.false, le-ltb _ _ c.if-most-n.false)
+returns c = rw (← late c.before.before.before, eq-eqb _ _ c.if-n-width-ne0.false, le-ltb _ _ c.if-n-width.false, le-ltb _ _ c.if-most-n.false)
 
 pub entry_spec : {M : Type 1} → statement M
 entry_spec =

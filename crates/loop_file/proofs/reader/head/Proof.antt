@@ -13,7 +13,7 @@ use Rattle.loop_file.proofs.reader.head.Tie as tie
 returns-then-n-lt26 : tie.Need-returns-then-n-lt26
 unfolding first_refusal length_checks head_checks
 returns-then-n-lt26 c =
-    let short : length c.before.args.file.now ≤ longest + 1 = omega arith in
+    let short : length c.args.file.now ≤ longest + 1 = omega arith in
     search (lt-ltb, min-eq_left)
 
 overflow_add-result : tie.Need-overflow_add-result

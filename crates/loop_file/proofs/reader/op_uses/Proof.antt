@@ -40,15 +40,15 @@ wide-slot-requires c κs = tt
 returns-then-slot-below : tie.Need-returns-then-slot-below invariant-loop-j decreases-loop-j
 unfolding op_use_checks use_checks first_refusal
 returns-then-slot-below c =
-    let l = c.before.before.before.before.loop-j in
-    refused_at _ l.j _ _ (omega arith) l.invariant.2 (rw (← c.before.wide-slot.ensures.0, ← l.invariant.1, le-leb _ _ c.if-slot-below.true))
+    let l = c.loop-j in
+    refused_at _ l.j _ _ (omega arith) l.invariant.2 (rw (← c.wide-slot.ensures.0, ← l.invariant.1, le-leb _ _ c.if-slot-below.true))
 
 returns-then-slot-gt24 : tie.Need-returns-then-slot-gt24 invariant-loop-j decreases-loop-j
 unfolding op_use_checks use_checks first_refusal
 returns-then-slot-gt24 c =
-    let l = c.before.before.before.before.before.loop-j in
+    let l = c.loop-j in
     refused_at _ l.j _ _ (omega arith) l.invariant.2
-    (rw (← c.before.before.wide-slot.ensures.0, ← l.invariant.1, lt-leb _ _ c.before.if-slot-below.false, lt-ltb _ _ c.if-slot-gt24.true))
+    (rw (← c.wide-slot.ensures.0, ← l.invariant.1, lt-leb _ _ c.if-slot-below.false, lt-ltb _ _ c.if-slot-gt24.true))
 
 overflow_add-at-in-loop-j : tie.Need-overflow_add-at-in-loop-j invariant-loop-j decreases-loop-j
 overflow_add-at-in-loop-j c = omega arith
@@ -64,18 +64,18 @@ overflow_add-result c = omega arith
 
 -- after the slot's two tests its check does not fail
 slot_right : (c : tie.Else-slot-gt24 invariant-loop-j decreases-loop-j) → let a = c.before.before.before.before.before.before.before.args in
-    let j = c.before.before.before.before.before.loop-j.j in
+    let j = c.before.before.before.before.before.loop.j in
     let slot = byte_at a.file.now (a.first + use_width * j) in
     (leb slot (slot_below a.file.now a.first j) || ltb 24 slot) ≡ false
 slot_right c =
-    let l = c.before.before.before.before.before.loop-j in
-    rw (← c.before.before.wide-slot.ensures.0, ← l.invariant.1, lt-leb _ _ c.before.if-slot-below.false, le-ltb _ _ c.if-slot-gt24.false)
+    let l = c.before.before.before.before.before.loop in
+    rw (← c.before.before.wide.ensures.0, ← l.invariant.1, lt-leb _ _ c.before.if1.false, le-ltb _ _ c.if2.false)
 
 returns-then-duration-lt1 : tie.Need-returns-then-duration-lt1 invariant-loop-j decreases-loop-j
 unfolding op_use_checks use_checks first_refusal
 returns-then-duration-lt1 c =
-    let l = c.before.before.before.before.before.before.before.before.loop-j in
-    refused_at _ l.j _ _ (omega arith) l.invariant.2 (rw (slot_right c.before.before.before, ← c.before.wide-duration.ensures.0, le-leb c.before.wide-duration.result 0 (omega (arith, c.if-duration-lt1.true))))
+    let l = c.loop-j in
+    refused_at _ l.j _ _ (omega arith) l.invariant.2 (rw (slot_right c.before.before.before, ← c.wide-duration.ensures.0, le-leb c.wide-duration.result 0 (omega (arith, c.if-duration-lt1.true))))
 
 overflow_add-result-then-duration-gt16 : tie.Need-overflow_add-result-then-duration-gt16 invariant-loop-j decreases-loop-j
 overflow_add-result-then-duration-gt16 c = omega arith
@@ -83,9 +83,9 @@ overflow_add-result-then-duration-gt16 c = omega arith
 returns-then-duration-gt16 : tie.Need-returns-then-duration-gt16 invariant-loop-j decreases-loop-j
 unfolding op_use_checks use_checks first_refusal
 returns-then-duration-gt16 c =
-    let l = c.before.before.before.before.before.before.before.before.before.loop-j in
+    let l = c.loop-j in
     refused_at _ l.j _ _ (omega arith) l.invariant.2
-    (rw (slot_right c.before.before.before.before, ← c.before.before.wide-duration.ensures.0, lt-leb c.before.before.wide-duration.result 0 c.before.if-duration-lt1.false, lt-ltb _ _ c.if-duration-gt16.true))
+    (rw (slot_right c.before.before.before.before, ← c.wide-duration.ensures.0, lt-leb c.wide-duration.result 0 c.if-duration-lt1.false, lt-ltb _ _ c.if-duration-gt16.true))
 
 overflow_add-j : tie.Need-overflow_add-j invariant-loop-j decreases-loop-j
 overflow_add-j c = omega arith
@@ -96,16 +96,16 @@ loop-j-smaller c = omega arith
 loop-j-preserved : tie.Need-loop-j-preserved invariant-loop-j decreases-loop-j
 unfolding op_use_checks use_checks first_refusal
 loop-j-preserved c =
-    let l = c.before.before.before.before.before.before.before.before.before.loop-j in (
+    let l = c.loop-j in (
       omega arith,
-      rw (add-one l.j) c.before.before.before.before.before.before.wide-slot.ensures.0,
+      rw (add-one l.j) c.wide-slot.ensures.0,
       row_next _ l.j l.invariant.2
-          (rw (slot_right c.before.before.before.before, ← c.before.before.wide-duration.ensures.0, lt-leb c.before.before.wide-duration.result 0 c.before.if-duration-lt1.false, le-ltb _ _ c.if-duration-gt16.false)),
+          (rw (slot_right c.before.before.before.before, ← c.wide-duration.ensures.0, lt-leb c.wide-duration.result 0 c.if-duration-lt1.false, le-ltb _ _ c.if-duration-gt16.false)),
     )
 
 returns : tie.Need-returns invariant-loop-j decreases-loop-j
 unfolding op_use_checks
-returns c = passed_all _ c.before.loop-j.j _ (omega arith) c.before.loop-j.invariant.2 refl
+returns c = passed_all _ c.loop-j.j _ (omega arith) c.loop-j.invariant.2 refl
 
 pub op_uses_spec : {M : Type 1} → statement M
 op_uses_spec =

@@ -35,7 +35,7 @@ bounds-file-at c = omega arith
 returns-then-file-at-gt64 : tie.Need-returns-then-file-at-gt64 invariant-loop-o decreases-loop-o
 unfolding op_checks first_refusal
 returns-then-file-at-gt64 c =
-    let l = c.before.before.before.loop-o in
+    let l = c.loop-o in
     refused_at _ l.o _ _ (omega arith) l.invariant.3 (rw (lt-ltb _ _ c.if-file-at-gt64.true))
 
 overflow_add-at-in-loop-o : tie.Need-overflow_add-at-in-loop-o invariant-loop-o decreases-loop-o
@@ -53,9 +53,9 @@ overflow_add-result c = omega arith
 returns-then-k-gt4 : tie.Need-returns-then-k-gt4 invariant-loop-o decreases-loop-o
 unfolding op_checks first_refusal
 returns-then-k-gt4 c =
-    let l = c.before.before.before.before.before.before.loop-o in
+    let l = c.loop-o in
     refused_at _ l.o _ _ (omega arith) l.invariant.3
-    (rw (le-ltb _ _ c.before.before.before.if-file-at-gt64.false, ← c.before.wide-k.ensures.0, lt-ltb _ _ c.if-k-gt4.true))
+    (rw (le-ltb _ _ c.if-file-at-gt64.false, ← c.wide-k.ensures.0, lt-ltb _ _ c.if-k-gt4.true))
 
 overflow_add-sum : tie.Need-overflow_add-sum invariant-loop-o decreases-loop-o
 overflow_add-sum c = omega arith
@@ -69,17 +69,17 @@ loop-o-smaller c = omega arith
 loop-o-preserved : tie.Need-loop-o-preserved invariant-loop-o decreases-loop-o
 unfolding op_checks first_refusal
 loop-o-preserved c =
-    let l = c.before.before.before.before.before.before.loop-o in (
+    let l = c.loop-o in (
       omega arith,
-      omega (arith, first_use_next c.before.before.before.before.before.before.before.before.args.file.now l.o),
+      omega (arith, first_use_next c.args.file.now l.o),
       omega arith,
-      row_next _ l.o l.invariant.3 (rw (le-ltb _ _ c.before.before.before.if-file-at-gt64.false, ← c.before.wide-k.ensures.0, le-ltb _ _ c.if-k-gt4.false)),
+      row_next _ l.o l.invariant.3 (rw (le-ltb _ _ c.if-file-at-gt64.false, ← c.wide-k.ensures.0, le-ltb _ _ c.if-k-gt4.false)),
     )
 
 returns : tie.Need-returns invariant-loop-o decreases-loop-o
 returns c =
-    let l = c.before.loop-o in
-    let a = c.before.before.before.args in
+    let l = c.loop-o in
+    let a = c.args in
     let e : l.o ≡ a.n = omega arith in
     passed_all _ l.o _ e l.invariant.3 (l.invariant.1 ∙ ap (first_use a.file.now) e)
 

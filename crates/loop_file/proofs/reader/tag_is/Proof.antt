@@ -41,7 +41,7 @@ bounds-tag-1 : tie.Need-bounds-tag-1
 bounds-tag-1 c = omega arith
 
 returns-then-file-at-2 : tie.Need-returns-then-file-at-2
-returns-then-file-at-2 c = rw (four_stand, eq-eqb _ _ c.before.before.before.if-file-at.false, ne_eqb _ _ c.if-file-at-2.true)
+returns-then-file-at-2 c = rw (four_stand, eq-eqb _ _ c.if-file-at.false, ne_eqb _ _ c.if-file-at-2.true)
 
 overflow_add-at-2 : tie.Need-overflow_add-at-2
 overflow_add-at-2 c = omega arith
@@ -53,7 +53,7 @@ bounds-tag-2 : tie.Need-bounds-tag-2
 bounds-tag-2 c = omega arith
 
 returns-then-file-at-3 : tie.Need-returns-then-file-at-3
-returns-then-file-at-3 c = rw (four_stand, eq-eqb _ _ c.before.before.before.before.before.before.if-file-at.false, eq-eqb _ _ c.before.before.before.if-file-at-2.false, ne_eqb _ _ c.if-file-at-3.true)
+returns-then-file-at-3 c = rw (four_stand, eq-eqb _ _ c.if-file-at.false, eq-eqb _ _ c.if-file-at-2.false, ne_eqb _ _ c.if-file-at-3.true)
 
 overflow_add-result : tie.Need-overflow_add-result
 overflow_add-result c = omega arith
@@ -66,7 +66,7 @@ bounds-tag-3 c = omega arith
 
 returns : tie.Need-returns
 returns c =
-    rw (four_stand, eq-eqb _ _ c.before.before.before.before.before.before.before.before.if-file-at.false, eq-eqb _ _ c.before.before.before.before.before.if-file-at-2.false, eq-eqb _ _ c.before.before.if-file-at-3.false)
+    rw (four_stand, eq-eqb _ _ c.if-file-at.false, eq-eqb _ _ c.if-file-at-2.false, eq-eqb _ _ c.if-file-at-3.false)
 
 pub tag_is_spec : {M : Type 1} → statement M
 tag_is_spec =

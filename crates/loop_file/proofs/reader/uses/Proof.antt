@@ -41,36 +41,36 @@ wide-k-requires c κs = tt
 
 -- the uses of the operation lie inside the file
 inside : (c : tie.After-wide-k invariant-loop-o decreases-loop-o) → let a = c.before.before.before.before.before.args in
-    c.before.before.before.loop-o.first + 2 * c.wide-k.result ≤ length a.file.now
+    c.before.before.before.loop.first + 2 * c.wide.result ≤ length a.file.now
 inside c =
     let a = c.before.before.before.before.before.args in
-    omega (arith, first_use_le a.file.now c.before.before.before.loop-o.o a.n (omega arith))
+    omega (arith, first_use_le a.file.now c.before.before.before.loop.o a.n (omega arith))
 
 op_uses-one-requires : tie.Need-op_uses-one-requires invariant-loop-o decreases-loop-o
 op_uses-one-requires c κs = (inside c, omega arith)
 
 enum_told-1 : tie.Need-enum_told-1 invariant-loop-o decreases-loop-o
-enum_told-1 c = c.match.keys1
+enum_told-1 c = c.in-Fine-1.keys1
 
 enum_told-in_default : tie.Need-enum_told-in_default invariant-loop-o decreases-loop-o
-enum_told-in_default c = c.match.keys2
+enum_told-in_default c = c.in_default-1.keys2
 
 -- what `op_uses` says, of the operation's own table
 one : (c : tie.After-op_uses-one invariant-loop-o decreases-loop-o) → let a = c.before.before.before.before.before.before.args in
-    let l = c.before.before.before.before.loop-o in
-    part_of c.op_uses-one.result ≡ settle (op_use_checks a.file.now (a.start + 2 * first_use a.file.now l.o) (uses_of a.file.now l.o)) 0
-one c = rw (c.before.before.before.before.loop-o.invariant.1, c.before.wide-k.ensures.0) at c.op_uses-one.ensures
+    let l = c.before.before.before.before.loop in
+    part_of c.op-uses.result ≡ settle (op_use_checks a.file.now (a.start + 2 * first_use a.file.now l.o) (uses_of a.file.now l.o)) 0
+one c = rw (c.before.before.before.before.loop.invariant.1, c.before.wide.ensures.0) at c.op-uses.ensures
 
 returns-in_default : tie.Need-returns-in_default invariant-loop-o decreases-loop-o
 returns-in_default c =
-    let l = c.before.before.before.before.before.before.loop-o in
-    part_refused _ l.o _ (omega arith) l.invariant.2 c.enum_told-in_default-1.given.1 (one c.before.before)
+    let l = c.loop-o in
+    part_refused _ l.o _ (omega arith) l.invariant.2 c.in_default.is (one c.before)
 
 overflow_mul-first : tie.Need-overflow_mul-first invariant-loop-o decreases-loop-o
 overflow_mul-first c = omega arith
 
 overflow_add-first : tie.Need-overflow_add-first invariant-loop-o decreases-loop-o
-overflow_add-first c = omega (arith, inside c.before.before.before)
+overflow_add-first c = omega (arith, inside c.before.before)
 
 overflow_add-o-in-loop-o-2 : tie.Need-overflow_add-o-in-loop-o-2 invariant-loop-o decreases-loop-o
 overflow_add-o-in-loop-o-2 c = omega arith
@@ -80,14 +80,14 @@ loop-o-smaller c = omega arith
 
 loop-o-preserved : tie.Need-loop-o-preserved invariant-loop-o decreases-loop-o
 loop-o-preserved c =
-    let l = c.before.before.before.before.before.before.loop-o in (
+    let l = c.loop-o in (
       omega arith,
-      omega (arith, first_use_next c.before.before.before.before.before.before.before.before.args.file.now l.o),
-      row_next _ l.o l.invariant.2 (part_fine _ c.enum_told-1.given.1 (one c.before.before)),
+      omega (arith, first_use_next c.args.file.now l.o),
+      row_next _ l.o l.invariant.2 (part_fine _ c.in-Fine.is (one c.before)),
     )
 
 returns : tie.Need-returns invariant-loop-o decreases-loop-o
-returns c = passed_all _ c.before.loop-o.o _ (omega arith) c.before.loop-o.invariant.2 refl
+returns c = passed_all _ c.loop-o.o _ (omega arith) c.loop-o.invariant.2 refl
 
 pub uses_spec : {M : Type 1} → statement M
 uses_spec =

@@ -31,7 +31,7 @@ natural-sum-requires c κs = omega arith
 few : (c : tie.After-natural-sum invariant-loop-o decreases-loop-o) → c.natural-sum.result ≤ 4
 few c =
     let s = c.before.before.before in
-    rw c.natural-sum.ensures (op_few _ _ _ _ (passes_each (op_given_checks s.args.ops.now) 0 _ c.before.before.loop-o.o s.requires.2 (omega arith) (omega arith)))
+    rw c.natural-sum.ensures (op_few _ _ _ _ (passes_each (op_given_checks s.args.ops.now) 0 _ c.loop-o.o s.requires.2 (omega arith) (omega arith)))
 
 overflow_add-sum : tie.Need-overflow_add-sum invariant-loop-o decreases-loop-o
 overflow_add-sum c = omega (arith, few c)
@@ -44,13 +44,13 @@ loop-o-smaller c = omega arith
 
 loop-o-preserved : tie.Need-loop-o-preserved invariant-loop-o decreases-loop-o
 loop-o-preserved c =
-    let l = c.before.before.loop-o in
-    (omega arith, ap₂ ◌+◌ l.invariant.1 c.natural-sum.ensures ∙ sym (given_next c.before.before.before.args.ops.now l.o), omega (arith, few c))
+    let l = c.loop-o in
+    (omega arith, ap₂ ◌+◌ l.invariant.1 c.natural-sum.ensures ∙ sym (given_next c.args.ops.now l.o), omega (arith, few c))
 
 returns : tie.Need-returns invariant-loop-o decreases-loop-o
 returns c =
-    let e : c.before.loop-o.o ≡ c.before.before.args.n = omega arith in
-    (c.before.loop-o.invariant.1 ∙ ap (first_given c.before.before.args.ops.now) e, omega arith)
+    let e : c.loop-o.o ≡ c.args.n = omega arith in
+    (c.loop-o.invariant.1 ∙ ap (first_given c.args.ops.now) e, omega arith)
 
 pub all_uses_spec : {M : Type 1} → statement M
 all_uses_spec =

@@ -40,7 +40,7 @@ outside-requires c κs = omega arith
 
 -- ---- what the tests say of them
 
-source_said : (c : tie.After-outside) → not_below c.before.args.n (source c.before) ≡ c.outside.result
+source_said : (c : tie.After-outside) → not_below c.args.n (source c.before) ≡ c.outside.result
 source_said c =
     let s = c.before in
     under s.args.n (source s) (omega arith) ∙ sym (rw (last_is s.args.n (omega arith) (omega arith)) at c.outside.ensures)
@@ -49,16 +49,16 @@ source_said c =
 abbrev first : tie.After-outside-2 → tie.After-outside
 first c = c.before.before
 
-target_said : (c : tie.After-outside-2) → let s = (first c).before in not_below s.args.n (target s) ≡ c.outside-2.result
+target_said : (c : tie.After-outside-2) → let s = (first c).before in not_below s.args.n (target s) ≡ c.outside2.result
 target_said c =
     let s = (first c).before in
-    under s.args.n (target s) (omega arith) ∙ sym (rw (last_is s.args.n (omega arith) (omega arith)) at c.outside-2.ensures)
+    under s.args.n (target s) (omega arith) ∙ sym (rw (last_is s.args.n (omega arith) (omega arith)) at c.outside2.ensures)
 
 abbrev second : tie.After-outside-3 → tie.After-outside-2
 second c = c.before.before
 
-delay_said : (c : tie.After-outside-3) → let z = delay (first (second c)).before in not (le_z (negsuc 63) z && le_z z (pos 64)) ≡ c.outside-3.result
-delay_said c = outside_range (negsuc 63) (pos 64) (delay (first (second c)).before) ∙ sym c.outside-3.ensures
+delay_said : (c : tie.After-outside-3) → let z = delay (first (second c)).before in not (le_z (negsuc 63) z && le_z z (pos 64)) ≡ c.outside3.result
+delay_said c = outside_range (negsuc 63) (pos 64) (delay (first (second c)).before) ∙ sym c.outside3.ensures
 
 abbrev third : tie.After-outside-4 → tie.After-outside-3
 third c = c.before.before
@@ -80,7 +80,7 @@ outside-requires-2 c κs = omega arith
 
 returns-then-outside-2 : tie.Need-returns-then-outside-2
 unfolding dep_checks first_refusal
-returns-then-outside-2 c = let t = c.before in rw (source_said (first t) ∙ t.before.if-outside.false, target_said t ∙ c.if-outside-2.true)
+returns-then-outside-2 c = let t = c.before in rw (source_said (first t) ∙ t.if-outside.false, target_said t ∙ c.if-outside-2.true)
 
 overflow_add-at-2 : tie.Need-overflow_add-at-2
 overflow_add-at-2 c = omega arith
@@ -93,7 +93,7 @@ unfolding dep_checks first_refusal
 returns-then-outside-3 c =
     let d = c.before in
     let t = second d in
-    rw (source_said (first t) ∙ t.before.if-outside.left, target_said t ∙ d.before.if-outside-2.false, delay_said d ∙ c.if-outside-3.true)
+    rw (source_said (first t) ∙ t.if-outside.left, target_said t ∙ d.if-outside-2.false, delay_said d ∙ c.if-outside-3.true)
 
 overflow_add-at-3 : tie.Need-overflow_add-at-3
 overflow_add-at-3 c = omega arith
@@ -107,7 +107,7 @@ returns-then-outside-4 c =
     let r = c.before in
     let d = third r in
     let t = second d in
-    rw (source_said (first t) ∙ t.before.if-outside.left, target_said t ∙ d.before.if-outside-2.left, delay_said d ∙ r.before.if-outside-3.false, distance_said r ∙ c.if-outside-4.true)
+    rw (source_said (first t) ∙ t.if-outside.left, target_said t ∙ d.if-outside-2.left, delay_said d ∙ r.if-outside-3.false, distance_said r ∙ c.if-outside-4.true)
 
 returns : tie.Need-returns
 unfolding dep_checks first_refusal
@@ -115,7 +115,7 @@ returns c =
     let r = c.before in
     let d = third r in
     let t = second d in
-    rw (source_said (first t) ∙ t.before.if-outside.left, target_said t ∙ d.before.if-outside-2.left, delay_said d ∙ r.before.if-outside-3.false, distance_said r ∙ c.if-outside-4.false)
+    rw (source_said (first t) ∙ t.if-outside.left, target_said t ∙ d.if-outside-2.left, delay_said d ∙ r.if-outside-3.false, distance_said r ∙ c.if-outside-4.false)
 
 pub dep_spec : {M : Type 1} → statement M
 dep_spec =

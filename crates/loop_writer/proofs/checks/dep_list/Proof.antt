@@ -25,15 +25,15 @@ dep-one-requires : tie.Need-dep-one-requires invariant-loop-e decreases-loop-e
 dep-one-requires c κs = omega arith
 
 enum_told-1 : tie.Need-enum_told-1 invariant-loop-e decreases-loop-e
-enum_told-1 c = c.match.keys1
+enum_told-1 c = c.in-Fine-1.keys1
 
 enum_told-in_default : tie.Need-enum_told-in_default invariant-loop-e decreases-loop-e
-enum_told-in_default c = c.match.keys2
+enum_told-in_default c = c.in_default-1.keys2
 
 returns-in_default : tie.Need-returns-in_default invariant-loop-e decreases-loop-e
 returns-in_default c =
-    let l = c.before.before.before.before.loop-e in
-    row_refused_as _ l.e _ (omega arith) l.invariant.1 c.enum_told-in_default-1.given.1 c.before.before.dep-one.ensures
+    let l = c.loop-e in
+    row_refused_as _ l.e _ (omega arith) l.invariant.1 c.in_default.is c.dep-one.ensures
 
 overflow_add-e : tie.Need-overflow_add-e invariant-loop-e decreases-loop-e
 overflow_add-e c = omega arith
@@ -43,11 +43,11 @@ loop-e-smaller c = omega arith
 
 loop-e-preserved : tie.Need-loop-e-preserved invariant-loop-e decreases-loop-e
 loop-e-preserved c =
-    let l = c.before.before.before.before.loop-e in
-    (omega arith, row_next _ l.e l.invariant.1 (fine_passes _ c.enum_told-1.given.1 c.before.before.dep-one.ensures))
+    let l = c.loop-e in
+    (omega arith, row_next _ l.e l.invariant.1 (fine_passes _ c.in-Fine.is c.dep-one.ensures))
 
 returns : tie.Need-returns invariant-loop-e decreases-loop-e
-returns c = row_passed _ c.before.loop-e.e _ (omega arith) c.before.loop-e.invariant.1
+returns c = row_passed _ c.loop-e.e _ (omega arith) c.loop-e.invariant.1
 
 pub dep_list_spec : {M : Type 1} → statement M
 dep_list_spec =

@@ -30,18 +30,18 @@ enum_told-in_default c = omega arith
 
 returns-in_default : tie.Need-returns-in_default
 returns-in_default c =
-    let k = c.before.before in
+    let k = c.before in
     let d = lists k.before in
-    refused_first (size_checks oper (length d.ops)) (after_op_size d) k.size-by_ops.ensures c.enum_told-in_default-1.given.1 ∙ whole d
+    refused_first (size_checks oper (length d.ops)) (after_op_size d) k.size-by_ops.ensures c.in_default.is ∙ whole d
 
 -- it is right
 abbrev at-ops : tie.In-Fine → tie.Start
-at-ops c = c.before.before.before
+at-ops c = c.before.before
 
 ops_pass : (c : tie.In-Fine) → let d = lists (at-ops c) in first_refusal (given_checks d) ≡ first_refusal (after_op_size d)
 ops_pass c =
     let d = lists (at-ops c) in
-    sym (whole d) ∙ rest_decides (size_checks oper (length d.ops)) (after_op_size d) c.before.before.size-by_ops.ensures c.enum_told-1.given.1
+    sym (whole d) ∙ rest_decides (size_checks oper (length d.ops)) (after_op_size d) c.before.before.size.ensures c.enum_told.given.1
 
 -- ---- the number of dependences
 
@@ -56,24 +56,24 @@ enum_told-in_default-by_deps c = omega arith
 
 returns-in_default-by_deps : tie.Need-returns-in_default-by_deps
 returns-in_default-by_deps c =
-    let k = c.before.before in
+    let k = c.before in
     let d = lists (at-ops k.before) in
-    refused_first (size_checks deps (length d.deps)) (after_sizes d) k.size-by_deps.ensures c.enum_told-in_default-by_deps-1.given.1 ∙ sym (ops_pass k.before)
+    refused_first (size_checks deps (length d.deps)) (after_sizes d) k.size-by_deps.ensures c.in_default-by_deps.is ∙ sym (ops_pass k.before)
 
 -- it is right
 abbrev at-deps : tie.In-Fine-by_deps → tie.In-Fine
-at-deps c = c.before.before.before
+at-deps c = c.before.before
 
 deps_pass : (c : tie.In-Fine-by_deps) → let d = lists (at-ops (at-deps c)) in first_refusal (given_checks d) ≡ first_refusal (after_sizes d)
 deps_pass c =
     let d = lists (at-ops (at-deps c)) in
-    ops_pass (at-deps c) ∙ rest_decides (size_checks deps (length d.deps)) (after_sizes d) c.before.before.size-by_deps.ensures c.enum_told-in-Fine-by_deps-1.given.1
+    ops_pass (at-deps c) ∙ rest_decides (size_checks deps (length d.deps)) (after_sizes d) c.before.before.size2.ensures c.enum-told3.given.1
 
 -- so there are 1 to 64 operations
 few : (c : tie.In-Fine-by_deps) → let n = op_total (lists (at-ops (at-deps c))) in (1 ≤ n) × (n ≤ 64)
 few c =
     let t = at-deps c in
-    size_range oper (length (lists (at-ops t)).ops) (fine_passes (size_checks oper (length (lists (at-ops t)).ops)) t.enum_told-1.given.1 t.before.before.size-by_ops.ensures)
+    size_range oper (length (lists (at-ops t)).ops) (fine_passes (size_checks oper (length (lists (at-ops t)).ops)) t.in-Fine.is t.size-by_ops.ensures)
 
 -- ---- the operations
 
@@ -88,24 +88,24 @@ enum_told-in_default-each_op c = omega arith
 
 returns-in_default-each_op : tie.Need-returns-in_default-each_op
 returns-in_default-each_op c =
-    let k = c.before.before in
+    let k = c.before in
     let d = lists (at-ops (at-deps k.before)) in
-    refused_first (ops_table d) (after_ops d) k.op_list-each_op.ensures c.enum_told-in_default-each_op-1.given.1 ∙ sym (deps_pass k.before)
+    refused_first (ops_table d) (after_ops d) k.op_list-each_op.ensures c.in_default-each_op.is ∙ sym (deps_pass k.before)
 
 -- they are right
 abbrev at-list : tie.In-Fine-each_op → tie.In-Fine-by_deps
-at-list c = c.before.before.before
+at-list c = c.before.before
 
 abbrev all : tie.In-Fine-each_op → Fields
 all c = lists (at-ops (at-deps (at-list c)))
 
 table_pass : (c : tie.In-Fine-each_op) → first_refusal (given_checks (all c)) ≡ first_refusal (after_ops (all c))
-table_pass c = deps_pass (at-list c) ∙ rest_decides (ops_table (all c)) (after_ops (all c)) c.before.before.op_list-each_op.ensures c.enum_told-in-Fine-each_op-1.given.1
+table_pass c = deps_pass (at-list c) ∙ rest_decides (ops_table (all c)) (after_ops (all c)) c.op_list-each_op.ensures c.in-Fine-each_op.is
 
 -- ---- the number of uses
 
 all_uses-requires : tie.Need-all_uses-requires
-all_uses-requires c κs = (omega arith, (few (at-list c)).1, fine_passes (ops_table (all c)) c.enum_told-in-Fine-each_op-1.given.1 c.before.before.op_list-each_op.ensures)
+all_uses-requires c κs = (omega arith, (few (at-list c)).1, fine_passes (ops_table (all c)) c.in-Fine-each_op.is c.op_list-each_op.ensures)
 
 overflow_mul-all_uses : tie.Need-overflow_mul-all_uses
 overflow_mul-all_uses c = omega (arith, (few (at-list c.before)).1, c.all_uses.ensures.1)
@@ -123,7 +123,7 @@ returns-then-uses-all_uses c =
 
 -- their number is right
 number : (c : tie.Else-uses-all_uses) → let d = all c.before.before in length d.uses ≡ use_width * first_given d.ops (op_total d)
-number c = c.if-uses-all_uses.false ∙ twice c.before
+number c = c.if1.false ∙ twice c.before
 
 use_list-each_use-requires : tie.Need-use_list-each_use-requires
 use_list-each_use-requires c κs = omega (arith, number c)
@@ -140,20 +140,20 @@ uses_said c = c.use_list-each_use.ensures ∙ number_right (all c.before.before.
 
 returns-in_default-each_use : tie.Need-returns-in_default-each_use
 returns-in_default-each_use c =
-    let k = c.before.before in
+    let k = c.before in
     let t = k.before.before.before in
-    refused_first (uses_given_checks (all t)) (deps_table (all t)) (uses_said k) c.enum_told-in_default-each_use-1.given.1 ∙ sym (table_pass t)
+    refused_first (uses_given_checks (all t)) (deps_table (all t)) (uses_said k) c.in_default-each_use.is ∙ sym (table_pass t)
 
 -- ---- the dependences
 
 dep_list-requires : tie.Need-dep_list-requires
-dep_list-requires c κs = let w = few (at-list c.before.before.before.before.before) in (omega arith, w.0, w.1)
+dep_list-requires c κs = let w = few (at-list c.before.before.before.before) in (omega arith, w.0, w.1)
 
 returns : tie.Need-returns
 returns c =
-    let k = c.before.before.before in
+    let k = c.before.before in
     let t = k.before.before.before in
-    c.dep_list.ensures ∙ sym (table_pass t ∙ rest_decides (uses_given_checks (all t)) (deps_table (all t)) (uses_said k) c.before.enum_told-in-Fine-each_use-1.given.1)
+    c.dep_list.ensures ∙ sym (table_pass t ∙ rest_decides (uses_given_checks (all t)) (deps_table (all t)) (uses_said k) c.in-Fine-each_use.is)
 
 pub given_spec : {M : Type 1} → statement M
 given_spec =

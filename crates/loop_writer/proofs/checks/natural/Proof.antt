@@ -19,7 +19,7 @@ bounds-list-i c = c.requires
 -- the number
 module _ (c : tie.After-z-1) where
   abbrev z : ℤ
-  z = field_at c.before.args.list.now c.before.args.i
+  z = field_at c.args.list.now c.args.i
 
   fits : SFits w32 z
   fits = record { sfits = c.z-1.given }

@@ -19,8 +19,8 @@ outside-requires c κs = omega arith
 latency_said : (c : tie.After-outside) → let a = c.before.args in not_up_to 64 (field_at a.ops.now (2 * a.o)) ≡ c.outside.result
 latency_said c = let a = c.before.args in up_to 64 (field_at a.ops.now (2 * a.o)) ∙ sym c.outside.ensures
 
-uses_said : (c : tie.After-outside-2) → let a = c.before.before.before.args in not_up_to 4 (field_at a.ops.now (2 * a.o + 1)) ≡ c.outside-2.result
-uses_said c = let a = c.before.before.before.args in up_to 4 (field_at a.ops.now (2 * a.o + 1)) ∙ sym c.outside-2.ensures
+uses_said : (c : tie.After-outside-2) → let a = c.before.before.before.args in not_up_to 4 (field_at a.ops.now (2 * a.o + 1)) ≡ c.outside2.result
+uses_said c = let a = c.before.before.before.args in up_to 4 (field_at a.ops.now (2 * a.o + 1)) ∙ sym c.outside2.ensures
 
 returns-then-outside : tie.Need-returns-then-outside
 unfolding op_checks first_refusal
@@ -30,7 +30,7 @@ overflow_add-at : tie.Need-overflow_add-at
 overflow_add-at c = omega arith
 
 outside-requires-2 : tie.Need-outside-requires-2
-outside-requires-2 c κs = c.before.before.requires
+outside-requires-2 c κs = c.requires
 
 returns-then-outside-2 : tie.Need-returns-then-outside-2
 unfolding op_checks first_refusal

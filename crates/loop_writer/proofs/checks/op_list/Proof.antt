@@ -25,15 +25,15 @@ op-one-requires : tie.Need-op-one-requires invariant-loop-o decreases-loop-o
 op-one-requires c κs = omega arith
 
 enum_told-1 : tie.Need-enum_told-1 invariant-loop-o decreases-loop-o
-enum_told-1 c = c.match.keys1
+enum_told-1 c = c.in-Fine-1.keys1
 
 enum_told-in_default : tie.Need-enum_told-in_default invariant-loop-o decreases-loop-o
-enum_told-in_default c = c.match.keys2
+enum_told-in_default c = c.in_default-1.keys2
 
 returns-in_default : tie.Need-returns-in_default invariant-loop-o decreases-loop-o
 returns-in_default c =
-    let l = c.before.before.before.before.loop-o in
-    row_refused_as _ l.o _ (omega arith) l.invariant.1 c.enum_told-in_default-1.given.1 c.before.before.op-one.ensures
+    let l = c.loop-o in
+    row_refused_as _ l.o _ (omega arith) l.invariant.1 c.in_default.is c.op-one.ensures
 
 overflow_add-o : tie.Need-overflow_add-o invariant-loop-o decreases-loop-o
 overflow_add-o c = omega arith
@@ -43,11 +43,11 @@ loop-o-smaller c = omega arith
 
 loop-o-preserved : tie.Need-loop-o-preserved invariant-loop-o decreases-loop-o
 loop-o-preserved c =
-    let l = c.before.before.before.before.loop-o in
-    (omega arith, row_next _ l.o l.invariant.1 (fine_passes _ c.enum_told-1.given.1 c.before.before.op-one.ensures))
+    let l = c.loop-o in
+    (omega arith, row_next _ l.o l.invariant.1 (fine_passes _ c.in-Fine.is c.op-one.ensures))
 
 returns : tie.Need-returns invariant-loop-o decreases-loop-o
-returns c = row_passed _ c.before.loop-o.o _ (omega arith) c.before.loop-o.invariant.1
+returns c = row_passed _ c.loop-o.o _ (omega arith) c.loop-o.invariant.1
 
 pub op_list_spec : {M : Type 1} → statement M
 op_list_spec =

@@ -38,24 +38,24 @@ one_use-one-requires c κs = omega arith
 
 -- what the check of a use says
 said : (c : tie.After-one_use-one invariant-loop-j decreases-loop-j) → let a = c.before.before.before.args in
-    refusal_of c.one_use-one.result ≡ first_refusal (table a.uses.now a.first c.before.before.loop-j.j)
+    refusal_of c.one-use.result ≡ first_refusal (table a.uses.now a.first c.before.before.loop.j)
 said c =
     let a = c.before.before.before.args in
-    let l = c.before.before.loop-j in
-    c.one_use-one.ensures ∙ ap (λ (b : ℕ). first_refusal (use_given_checks a.uses.now b (a.first + l.j))) l.invariant.1
+    let l = c.before.before.loop in
+    c.one-use.ensures ∙ ap (λ (b : ℕ). first_refusal (use_given_checks a.uses.now b (a.first + l.j))) l.invariant.1
 
 enum_told-1 : tie.Need-enum_told-1 invariant-loop-j decreases-loop-j
-enum_told-1 c = c.match.keys1
+enum_told-1 c = c.in-Fine-1.keys1
 
 enum_told-in_default : tie.Need-enum_told-in_default invariant-loop-j decreases-loop-j
-enum_told-in_default c = c.match.keys2
+enum_told-in_default c = c.in_default-1.keys2
 
 returns-in_default : tie.Need-returns-in_default invariant-loop-j decreases-loop-j
 unfolding op_uses_given_checks
 returns-in_default c =
-    let u = c.before.before in
-    let l = u.before.before.loop-j in
-    row_refused_as _ l.j _ (omega arith) l.invariant.3 c.enum_told-in_default-1.given.1 (said u)
+    let u = c.before in
+    let l = u.loop-j in
+    row_refused_as _ l.j _ (omega arith) l.invariant.3 c.in_default.is (said u)
 
 overflow_mul-u : tie.Need-overflow_mul-u invariant-loop-j decreases-loop-j
 overflow_mul-u c = omega arith
@@ -71,11 +71,11 @@ loop-j-smaller c = omega arith
 
 loop-j-preserved : tie.Need-loop-j-preserved invariant-loop-j decreases-loop-j
 loop-j-preserved c =
-    let u = c.before.before.before in
-    let l = u.before.before.loop-j in
-    let us = u.before.before.before.args.uses.now in
-    let first = u.before.before.before.args.first in
-    let passed = fine_passes (table us first l.j) c.before.enum_told-1.given.1 (said u) in
+    let u = c.before.before in
+    let l = u.loop-j in
+    let us = u.args.uses.now in
+    let first = u.args.first in
+    let passed = fine_passes (table us first l.j) c.in-Fine.is (said u) in
     let slot = c.natural-below.ensures in (
       omega arith,
       slot ∙ slot_next us first l.j,
@@ -85,7 +85,7 @@ loop-j-preserved c =
 
 returns : tie.Need-returns invariant-loop-j decreases-loop-j
 unfolding op_uses_given_checks
-returns c = row_passed _ c.before.loop-j.j _ (omega arith) c.before.loop-j.invariant.3
+returns c = row_passed _ c.loop-j.j _ (omega arith) c.loop-j.invariant.3
 
 pub op_uses_spec : {M : Type 1} → statement M
 op_uses_spec =

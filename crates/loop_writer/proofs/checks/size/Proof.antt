@@ -17,15 +17,15 @@ nonzero_div-records c = omega arith
 
 returns-then-records-least : tie.Need-returns-then-records-least
 unfolding first_refusal
-returns-then-records-least c = rw (eq-eqb _ _ c.before.if-numbers-width-ne0.false, lt-ltb _ _ c.if-records-least.true)
+returns-then-records-least c = rw (eq-eqb _ _ c.if-numbers-width-ne0.false, lt-ltb _ _ c.if-records-least.true)
 
 returns-then-most-records : tie.Need-returns-then-most-records
 unfolding first_refusal
-returns-then-most-records c = rw (eq-eqb _ _ c.before.before.if-numbers-width-ne0.false, le-ltb _ _ c.before.if-records-least.false, lt-ltb _ _ c.if-most-records.true)
+returns-then-most-records c = rw (eq-eqb _ _ c.if-numbers-width-ne0.false, le-ltb _ _ c.if-records-least.false, lt-ltb _ _ c.if-most-records.true)
 
 returns : tie.Need-returns
 unfolding first_refusal
-returns c = rw (eq-eqb _ _ c.before.before.if-numbers-width-ne0.false, le-ltb _ _ c.before.if-records-least.false, le-ltb _ _ c.if-most-records.false)
+returns c = rw (eq-eqb _ _ c.if-numbers-width-ne0.false, le-ltb _ _ c.if-records-least.false, le-ltb _ _ c.if-most-records.false)
 
 pub size_spec : {M : Type 1} → statement M
 size_spec = tie.close (tie.spec nonzero_rem-numbers returns-then-numbers-width-ne0 nonzero_div-records returns-then-records-least returns-then-most-records returns)

@@ -39,36 +39,36 @@ natural-k-requires : tie.Need-natural-k-requires invariant-loop-o decreases-loop
 natural-k-requires c κs = omega arith
 
 -- the uses of an operation stand before those of the operations after it
-inside : (c : tie.After-natural-k invariant-loop-o decreases-loop-o) → let a = c.before.before.before.args in c.before.before.loop-o.first + c.natural-k.result ≤ first_given a.ops.now a.n
+inside : (c : tie.After-natural-k invariant-loop-o decreases-loop-o) → let a = c.before.before.before.args in c.before.before.loop.first + c.natural.result ≤ first_given a.ops.now a.n
 inside c =
     let a = c.before.before.before.args in
-    let l = c.before.before.loop-o in
-    omega (arith, first_le a.ops.now l.o a.n (omega arith), c.natural-k.ensures, l.invariant.1)
+    let l = c.before.before.loop in
+    omega (arith, first_le a.ops.now l.o a.n (omega arith), c.natural.ensures, l.invariant.1)
 
 op_uses-one-requires : tie.Need-op_uses-one-requires invariant-loop-o decreases-loop-o
 op_uses-one-requires c κs = omega (arith, inside c)
 
 -- what the check of its uses says
 said : (c : tie.After-op_uses-one invariant-loop-o decreases-loop-o) → let a = c.before.before.before.before.args in
-    refusal_of c.op_uses-one.result ≡ first_refusal (table a.ops.now a.uses.now c.before.before.before.loop-o.o)
+    refusal_of c.op-uses.result ≡ first_refusal (table a.ops.now a.uses.now c.before.before.before.loop.o)
 said c =
     let us = c.before.before.before.before.args.uses.now in
-    c.op_uses-one.ensures ∙ ap₂ (λ (u n : ℕ). first_refusal (op_uses_given_checks us u n)) c.before.before.before.loop-o.invariant.1 c.before.natural-k.ensures
+    c.op-uses.ensures ∙ ap₂ (λ (u n : ℕ). first_refusal (op_uses_given_checks us u n)) c.before.before.before.loop.invariant.1 c.before.natural.ensures
 
 enum_told-1 : tie.Need-enum_told-1 invariant-loop-o decreases-loop-o
-enum_told-1 c = c.match.keys1
+enum_told-1 c = c.in-Fine-1.keys1
 
 enum_told-in_default : tie.Need-enum_told-in_default invariant-loop-o decreases-loop-o
-enum_told-in_default c = c.match.keys2
+enum_told-in_default c = c.in_default-1.keys2
 
 returns-in_default : tie.Need-returns-in_default invariant-loop-o decreases-loop-o
 returns-in_default c =
-    let u = c.before.before in
-    let l = u.before.before.before.loop-o in
-    row_refused_as _ l.o _ (omega arith) l.invariant.2 c.enum_told-in_default-1.given.1 (said u)
+    let u = c.before in
+    let l = u.loop-o in
+    row_refused_as _ l.o _ (omega arith) l.invariant.2 c.in_default.is (said u)
 
 overflow_add-first : tie.Need-overflow_add-first invariant-loop-o decreases-loop-o
-overflow_add-first c = omega (arith, inside c.before.before.before)
+overflow_add-first c = omega (arith, inside c.before.before)
 
 overflow_add-o-in-loop-o : tie.Need-overflow_add-o-in-loop-o invariant-loop-o decreases-loop-o
 overflow_add-o-in-loop-o c = omega arith
@@ -78,15 +78,15 @@ loop-o-smaller c = omega arith
 
 loop-o-preserved : tie.Need-loop-o-preserved invariant-loop-o decreases-loop-o
 loop-o-preserved c =
-    let u = c.before.before in
-    let l = u.before.before.before.loop-o in (
+    let u = c.before in
+    let l = u.loop-o in (
       omega arith,
-      ap₂ ◌+◌ l.invariant.1 u.before.natural-k.ensures ∙ sym (given_next u.before.before.before.before.args.ops.now l.o),
-      row_next _ l.o l.invariant.2 (fine_passes _ c.enum_told-1.given.1 (said u)),
+      ap₂ ◌+◌ l.invariant.1 u.natural-k.ensures ∙ sym (given_next u.args.ops.now l.o),
+      row_next _ l.o l.invariant.2 (fine_passes _ c.in-Fine.is (said u)),
     )
 
 returns : tie.Need-returns invariant-loop-o decreases-loop-o
-returns c = row_passed _ c.before.loop-o.o _ (omega arith) c.before.loop-o.invariant.2
+returns c = row_passed _ c.loop-o.o _ (omega arith) c.loop-o.invariant.2
 
 pub use_list_spec : {M : Type 1} → statement M
 use_list_spec =

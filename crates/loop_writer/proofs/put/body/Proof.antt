@@ -21,7 +21,7 @@ abbrev decreases-loop-i : tie.decreases-loop-i
 decreases-loop-i buffer₀ at fields i₀ buffer i = length fields - i
 
 loop-i-init : tie.Need-loop-i-init invariant-loop-i decreases-loop-i
-loop-i-init c = (omega arith, paste-zero c.before.args.buffer.now c.before.args.at (map byte_of c.before.args.fields.now))
+loop-i-init c = (omega arith, paste-zero c.args.buffer.now c.args.at (map byte_of c.args.fields.now))
 
 module _ (c : tie.At-loop-i invariant-loop-i decreases-loop-i) where
   abbrev a : tie.Start invariant-loop-i decreases-loop-i
@@ -74,8 +74,8 @@ shape_of-buffer c = as_long c.before
 
 returns : tie.Need-returns invariant-loop-i decreases-loop-i
 returns c =
-    let e : c.before.loop-i.i ≡ length (bytes c.before) = omega (arith, as_many c.before) in
-    c.before.loop-i.invariant.1 ∙ rw (e, take-length)
+    let e : c.loop-i.i ≡ length (bytes c.before) = omega (arith, as_many c.before) in
+    c.loop-i.invariant.1 ∙ rw (e, take-length)
 
 pub body_spec : {M : Type 1} → statement M
 body_spec =

@@ -9,13 +9,13 @@ use Rattle.loop_writer.proofs.Bytes.{plain, high_byte, low_byte, byte_fits, byte
 use Rattle.loop_writer.proofs.put.byte_of.Statement.{statement}
 use Rattle.loop_writer.proofs.put.byte_of.Tie as tie
 
-raised : (c : tie.Then-z-lt0) → (to_z w32 (of_z w32 c.before.args.z) +ℤ pos 256 ≡ pos (byte_of c.before.args.z)) × (byte_of c.before.args.z < 256)
+raised : (c : tie.Then-z-lt0) → (to_z w32 (of_z w32 c.args.z) +ℤ pos 256 ≡ pos (byte_of c.args.z)) × (byte_of c.args.z < 256)
 raised c =
-    let e = plain c.before.args.z c.before.requires in
-    rw e (high_byte c.before.args.z c.before.requires (rw e at c.if-z-lt0.true))
+    let e = plain c.args.z c.requires in
+    rw e (high_byte c.args.z c.requires (rw e at c.if-z-lt0.true))
 
-kept : (c : tie.Else-z-lt0) → (c.before.args.z ≡ pos (byte_of c.before.args.z)) × (byte_of c.before.args.z < 256)
-kept c = low_byte c.before.args.z c.before.requires (rw (plain c.before.args.z c.before.requires) at c.if-z-lt0.false)
+kept : (c : tie.Else-z-lt0) → (c.args.z ≡ pos (byte_of c.args.z)) × (byte_of c.args.z < 256)
+kept c = low_byte c.args.z c.requires (rw (plain c.args.z c.requires) at c.if-z-lt0.false)
 
 overflow_add-result : tie.Need-overflow_add-result
 overflow_add-result c = byte_fits _ _ (raised c).0 (raised c).1

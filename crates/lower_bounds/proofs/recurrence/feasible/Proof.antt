@@ -30,7 +30,7 @@ loop_ok : (s : tie.Start invariant-loop-r decreases-loop-r) → LoopOk (loop_of 
 loop_ok s = accepted_ok s.args.file.now s.requires.0
 
 op_count-n-requires : tie.Need-op_count-n-requires invariant-loop-r decreases-loop-r
-op_count-n-requires c κs = c.before.requires.0
+op_count-n-requires c κs = c.requires.0
 
 loop-r-init : tie.Need-loop-r-init invariant-loop-r decreases-loop-r
 unfolding rounds
@@ -40,13 +40,13 @@ round-changed-requires : tie.Need-round-changed-requires invariant-loop-r decrea
 round-changed-requires c κs =
     let a = c.before.before in
     let s = start a in
-    (s.pre.0, s.pre.1, round_small _ (loop_ok s) _ _ _ (omega arith) a.loop-r.invariant.0)
+    (s.requires.0, s.requires.1, round_small _ (loop_ok s) _ _ _ (omega arith) a.loop-r.invariant.0)
 
 returns-then-not-changed : tie.Need-returns-then-not-changed invariant-loop-r decreases-loop-r
 returns-then-not-changed c =
     let a = c.before.before.before.before in
     record {
-      met = λ e. round_calm _ (loop_ok (start a)) _ _ _ _ _ (not-true _ c.if-not-changed.true) a.loop-r.invariant.0 c.before.round-changed.ensures;
+      met = λ e. round_calm _ (loop_ok (start a)) _ _ _ _ _ (not-true _ c.if-not-changed.true) a.loop-r.invariant.0 c.round-changed.ensures;
       unmet = λ e. absurd (true≢false e);
     }
 
@@ -59,10 +59,10 @@ loop-r-smaller c = omega arith
 loop-r-preserved : tie.Need-loop-r-preserved invariant-loop-r decreases-loop-r
 loop-r-preserved c =
     let a = c.before.before.before.before in
-    round_more _ (loop_ok (start a)) _ _ _ _ _ (not-false _ c.if-not-changed.false) a.loop-r.invariant.0 c.before.round-changed.ensures
+    round_more _ (loop_ok (start a)) _ _ _ _ _ (not-false _ c.if-not-changed.false) a.loop-r.invariant.0 c.round-changed.ensures
 
 returns : tie.Need-returns invariant-loop-r decreases-loop-r
-returns c = record { met = λ e. absurd (true≢false (sym e)); unmet = λ e. ⊎_elim (λ o. absurd (omega arith)) (λ w. w) c.before.loop-r.invariant.1 }
+returns c = record { met = λ e. absurd (true≢false (sym e)); unmet = λ e. ⊎_elim (λ o. absurd (omega arith)) (λ w. w) c.loop-r.invariant.1 }
 
 pub feasible_spec : {M : Type 1} → statement M
 feasible_spec =

@@ -24,15 +24,15 @@ offset_bounds-x-at-then-rose : tie.Need-offset_bounds-x-at-then-rose
 offset_bounds-x-at-then-rose c = omega arith
 
 bounds-x-at-then-rose : tie.Need-bounds-x-at-then-rose
-bounds-x-at-then-rose c = c.before.before.requires
+bounds-x-at-then-rose c = c.requires
 
 -- the element that may be raised
 abbrev old : tie.Start → ℤ
 old s = get_or s.args.x.now s.args.at (pos 0)
 
 -- what the test says
-rose : (c : tie.After-old-1) {t : Bool} → lt_z (to_z w32 (of_z w32 (old c.before))) (to_z w32 (of_z w32 c.before.args.v)) ≡ t → lt_z (old c.before) c.before.args.v ≡ t
-rose c = lt_plain w32 (old c.before) _ (record { sfits = c.old-1.given }) c.before.ranges.v
+rose : (c : tie.After-old-1) {t : Bool} → lt_z (to_z w32 (of_z w32 (old c.before))) (to_z w32 (of_z w32 c.args.v)) ≡ t → lt_z (old c.before) c.args.v ≡ t
+rose c = lt_plain w32 (old c.before) _ (record { sfits = c.old-1.given }) c.ranges.v
 
 returns-then-rose : tie.Need-returns-then-rose
 returns-then-rose c =

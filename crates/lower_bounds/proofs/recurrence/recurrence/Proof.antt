@@ -15,23 +15,23 @@ invariant-loop-lo file lo₀ hi₀ lo hi = Between (loop_of file) lo hi
 abbrev decreases-loop-lo : tie.decreases-loop-lo
 decreases-loop-lo file lo₀ hi₀ lo hi = hi - lo
 
-loop_ok : (c : tie.After-feasible invariant-loop-lo decreases-loop-lo) → LoopOk (loop_of c.before.before.args.file.now)
-loop_ok c = accepted_ok c.before.before.args.file.now c.before.before.requires
+loop_ok : (c : tie.After-feasible invariant-loop-lo decreases-loop-lo) → LoopOk (loop_of c.args.file.now)
+loop_ok c = accepted_ok c.args.file.now c.requires
 
 feasible-requires : tie.Need-feasible-requires invariant-loop-lo decreases-loop-lo
-feasible-requires c κs = (c.before.requires, omega arith)
+feasible-requires c κs = (c.requires, omega arith)
 
 returns-then-not-feasible : tie.Need-returns-then-not-feasible invariant-loop-lo decreases-loop-lo
-returns-then-not-feasible c = top_no _ (loop_ok c.before) _ (not-true _ c.if-not-feasible.true) c.before.feasible.ensures
+returns-then-not-feasible c = top_no _ (loop_ok c.before) _ (not-true _ c.if-not-feasible.true) c.feasible.ensures
 
 loop-lo-init : tie.Need-loop-lo-init invariant-loop-lo decreases-loop-lo
-loop-lo-init c = top_yes _ (loop_ok c.before) _ (not-false _ c.if-not-feasible.false) c.before.feasible.ensures
+loop-lo-init c = top_yes _ (loop_ok c.before) _ (not-false _ c.if-not-feasible.false) c.feasible.ensures
 
 overflow_add-mid : tie.Need-overflow_add-mid invariant-loop-lo decreases-loop-lo
 overflow_add-mid c = omega arith
 
 feasible-requires-in-loop-lo : tie.Need-feasible-requires-in-loop-lo invariant-loop-lo decreases-loop-lo
-feasible-requires-in-loop-lo c κs = (c.before.before.before.before.before.requires, omega arith)
+feasible-requires-in-loop-lo c κs = (c.requires, omega arith)
 
 loop-lo-smaller-then-feasible : tie.Need-loop-lo-smaller-then-feasible invariant-loop-lo decreases-loop-lo
 loop-lo-smaller-then-feasible c = omega arith
@@ -39,7 +39,7 @@ loop-lo-smaller-then-feasible c = omega arith
 loop-lo-preserved-then-feasible : tie.Need-loop-lo-preserved-then-feasible invariant-loop-lo decreases-loop-lo
 loop-lo-preserved-then-feasible c =
     let a = c.before.before.before in
-    half_yes _ (loop_ok a.before.before) _ _ _ _ c.if-feasible.true (omega arith) (omega arith) a.loop-lo.invariant c.before.feasible-in-loop-lo.ensures
+    half_yes _ (loop_ok a.before.before) _ _ _ _ c.if-feasible.true (omega arith) (omega arith) a.loop-lo.invariant c.feasible-in-loop-lo.ensures
 
 overflow_add-lo : tie.Need-overflow_add-lo invariant-loop-lo decreases-loop-lo
 overflow_add-lo c = omega arith
@@ -50,10 +50,10 @@ loop-lo-smaller c = omega arith
 loop-lo-preserved : tie.Need-loop-lo-preserved invariant-loop-lo decreases-loop-lo
 loop-lo-preserved c =
     let a = c.before.before.before in
-    half_no _ (loop_ok a.before.before) _ _ _ _ c.if-feasible.false (omega arith) (omega arith) a.loop-lo.invariant c.before.feasible-in-loop-lo.ensures
+    half_no _ (loop_ok a.before.before) _ _ _ _ c.if-feasible.false (omega arith) (omega arith) a.loop-lo.invariant c.feasible-in-loop-lo.ensures
 
 returns : tie.Need-returns invariant-loop-lo decreases-loop-lo
-returns c = between_found _ (loop_ok c.before.before.before) _ _ c.loop-lo-test.false c.before.loop-lo.invariant
+returns c = between_found _ (loop_ok c.before.before.before) _ _ c.loop-lo-test.false c.loop-lo.invariant
 
 pub recurrence_spec : {M : Type 1} → statement M
 recurrence_spec =

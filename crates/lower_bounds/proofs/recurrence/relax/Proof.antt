@@ -29,13 +29,13 @@ dep_ok : (s : tie.Start) → DepOk (size (loop_of s.args.file.now)) (dep s)
 dep_ok s = (loop_ok s).dep_ok s.args.e s.requires.1
 
 source-from-requires : tie.Need-source-from-requires
-source-from-requires c κs = (c.before.requires.0, c.before.requires.1)
+source-from-requires c κs = (c.requires.0, c.requires.1)
 
 target-to-requires : tie.Need-target-to-requires
-target-to-requires c κs = (c.before.before.requires.0, c.before.before.requires.1)
+target-to-requires c κs = (c.requires.0, c.requires.1)
 
 distance-requires : tie.Need-distance-requires
-distance-requires c κs = (c.before.before.before.requires.0, c.before.before.before.requires.1)
+distance-requires c κs = (c.requires.0, c.requires.1)
 
 abbrev start : tie.After-distance → tie.Start
 start c = c.before.before.before.before
@@ -52,10 +52,10 @@ overflow_mul-lag c = omega (arith, lag_le c)
 
 -- the element that is read
 abbrev from : tie.After-distance → ℤ
-from c = get_or (start c).args.x.now c.before.before.source-from.result (pos 0)
+from c = get_or (start c).args.x.now c.source-from.result (pos 0)
 
 bounds-x-from : tie.Need-bounds-x-from
-bounds-x-from c = omega (arith, (dep_ok (start c)).source-from, (loop_ok (start c)).few)
+bounds-x-from c = omega (arith, (dep_ok (start c)).source, (loop_ok (start c)).few)
 
 offset_bounds-x-from : tie.Need-offset_bounds-x-from
 offset_bounds-x-from c = omega (arith, bounds-x-from c)
@@ -74,7 +74,7 @@ abbrev below : tie.After-delay → ℕ
 below c = minus (from c.before.before) + minus (dep (start c.before.before)).delay
 
 sum_is : (c : tie.After-delay) → Is (sum c) (above c) (below c)
-sum_is c = is_add (is_back w32 (record { sfits = c.before.v-1.given }) (parts (from c.before.before))) (is_got w32 c.delay.type_inv c.delay.ensures (parts _))
+sum_is c = is_add (is_back w32 (record { sfits = c.v-1.given }) (parts (from c.before.before))) (is_got w32 c.delay.type_inv c.delay.ensures (parts _))
 
 -- what bounds a number bounds its parts
 mag_parts : (z : ℤ) → (plus z ≤ mag z) × (minus z ≤ suc (mag z))
@@ -86,7 +86,7 @@ sum_small : (c : tie.After-delay) → (above c < below c + 16777280) × (below c
 sum_small c =
     let u = c.before.before in
     let s = start u in
-    let f : mag (from u) < 16777216 = rw (← u.before.before.source-from.ensures) at s.pre.3 in
+    let f : mag (from u) < 16777216 = rw (← u.source-from.ensures) at s.requires.3 in
     omega (arith, mag_parts (from u), le_of (parts (dep s).delay) (is_pos 64) (dep_ok s).late, le_of (is_negsuc 63) (parts (dep s).delay) (dep_ok s).early)
 
 overflow_add-v : tie.Need-overflow_add-v
@@ -103,7 +103,7 @@ overflow_sub-v : tie.Need-overflow_sub-v
 overflow_sub-v c = let h = sum_small c in is_fits w32 (less_is c) (omega arith) (omega (arith, lag_le c.before.before))
 
 raise-requires : tie.Need-raise-requires
-raise-requires c κs = let s = start c.before.before.before in omega (arith, (dep_ok s).target-to, (loop_ok s).few)
+raise-requires c κs = let s = start c.before.before.before in omega (arith, (dep_ok s).target, (loop_ok s).few)
 
 returns : tie.Need-returns
 returns c =
@@ -111,7 +111,7 @@ returns c =
     let u = t.before.before in
     let e : to_z w32 (of_z w32 (to_z w32 (of_z w32 (sum t)) -ℤ to_z w32 (lag u))) ≡ from u +ℤ (dep (start u)).delay -ℤ pos (lag u) =
     is_eq (is_back w32 (overflow_sub-v t) (less_is t)) (is_subtract (is_add (parts (from u)) (parts (dep (start u)).delay)) (is_pos (lag u))) (omega arith) in
-    record { raised = rw (← u.before.before.source-from.ensures, ← u.before.target-to.ensures, ← u.distance.ensures) (rw e at c.raise.ensures) }
+    record { raised = rw (← u.source-from.ensures, ← u.target-to.ensures, ← u.distance.ensures) (rw e at c.raise.ensures) }
 
 pub relax_spec : {M : Type 1} → statement M
 relax_spec =

@@ -30,21 +30,21 @@ loop_ok : (s : tie.Start invariant-loop-e decreases-loop-e) → LoopOk (loop_of 
 loop_ok s = accepted_ok s.args.file.now s.requires.0
 
 -- a turn's dependence is there
-known : (c : tie.In-loop-e invariant-loop-e decreases-loop-e) → c.before.loop-e.e < length (loop_of (start c.before).args.file.now).deps
+known : (c : tie.In-loop-e invariant-loop-e decreases-loop-e) → c.loop-e.e < length (loop_of (start c.before).args.file.now).deps
 known c = omega arith
 
 dep_count-m-requires : tie.Need-dep_count-m-requires invariant-loop-e decreases-loop-e
-dep_count-m-requires c κs = c.before.requires.0
+dep_count-m-requires c κs = c.requires.0
 
 loop-e-init : tie.Need-loop-e-init invariant-loop-e decreases-loop-e
 unfolding met_to
-loop-e-init c = (omega arith, (rw relax_to_none c.before.before.requires.2.natural, refl))
+loop-e-init c = (omega arith, (rw relax_to_none c.requires.2.natural, refl))
 
 relax-rose-requires : tie.Need-relax-rose-requires invariant-loop-e decreases-loop-e
 relax-rose-requires c κs =
     let a = c.before.before in
     let s = start a in
-    (s.pre.0, known c.before, s.pre.1, turn_small _ (loop_ok s) _ _ (known c.before) _ _ s.pre.2 a.loop-e.invariant.1.0)
+    (s.requires.0, known c.before, s.requires.1, turn_small _ (loop_ok s) _ _ (known c.before) _ _ s.requires.2 a.loop-e.invariant.1.0)
 
 overflow_add-e : tie.Need-overflow_add-e invariant-loop-e decreases-loop-e
 overflow_add-e c = omega (arith, (loop_ok (start c.before.before.before)).sparse)

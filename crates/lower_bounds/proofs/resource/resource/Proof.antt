@@ -22,7 +22,7 @@ unfolding max_of up_from
 loop-s-init c = omega arith
 
 total_on-t-requires : tie.Need-total_on-t-requires invariant-loop-s decreases-loop-s
-total_on-t-requires c κs = c.before.before.before.requires
+total_on-t-requires c κs = c.requires
 
 overflow_add-s : tie.Need-overflow_add-s invariant-loop-s decreases-loop-s
 overflow_add-s c = omega arith
@@ -40,14 +40,14 @@ further f s h =
 loop-s-preserved : tie.Need-loop-s-preserved invariant-loop-s decreases-loop-s
 loop-s-preserved c =
     let m = c.before.before.before in
-    let e = further (total_on (loop_of m.before.before.args.file.now)) m.loop-s.s (omega arith) in
-    ⊎_elim (λ w. omega arith) (λ w. omega arith) c.if-most-t.branch
+    let e = further (total_on (loop_of m.args.file.now)) m.loop-s.s (omega arith) in
+    ⊎_elim (λ w. omega arith) (λ w. omega arith) c.if-most-t.branch-raw
 
 returns : tie.Need-returns invariant-loop-s decreases-loop-s
 unfolding resource_bound
 returns c =
-    let e : c.before.loop-s.s - 1 ≡ 24 = omega arith in
-    rw e at c.before.loop-s.invariant.2
+    let e : c.loop-s.s - 1 ≡ 24 = omega arith in
+    rw e at c.loop-s.invariant.2
 
 pub resource_spec : {M : Type 1} → statement M
 resource_spec =

@@ -21,17 +21,17 @@ abbrev decreases-loop-u : tie.decreases-loop-u
 decreases-loop-u file s n sum₀ u₀ sum u = n - u
 
 use_total-n-requires : tie.Need-use_total-n-requires invariant-loop-u decreases-loop-u
-use_total-n-requires c κs = c.before.requires
+use_total-n-requires c κs = c.requires
 
 loop-u-init : tie.Need-loop-u-init invariant-loop-u decreases-loop-u
 unfolding sum_of up_from
 loop-u-init c = omega arith
 
 slot-requires : tie.Need-slot-requires invariant-loop-u decreases-loop-u
-slot-requires c κs = (c.before.before.before.before.requires, omega arith)
+slot-requires c κs = (c.requires, omega arith)
 
 duration-sum-requires : tie.Need-duration-sum-requires invariant-loop-u decreases-loop-u
-duration-sum-requires c κs = (c.before.before.before.before.before.before.requires, omega arith)
+duration-sum-requires c κs = (c.requires, omega arith)
 
 -- 16 for each use so far and for this one, of at most 256
 overflow_add-sum : tie.Need-overflow_add-sum invariant-loop-u decreases-loop-u
@@ -39,7 +39,7 @@ overflow_add-sum c =
     let s = c.before.before.before.before.before.before.before in
     let l = loop_of s.args.file.now in
     let ok = accepted_ok s.args.file.now s.requires in
-    let u = c.before.before.before.before.loop-u.u in
+    let u = c.loop-u.u in
     omega (arith, all_few l ok, total_most l ok s.args.s u (omega arith), (all_ok l ok u (omega arith)).ends)
 
 overflow_add-u : tie.Need-overflow_add-u invariant-loop-u decreases-loop-u
@@ -53,19 +53,19 @@ loop-u-preserved : tie.Need-loop-u-preserved invariant-loop-u decreases-loop-u
 loop-u-preserved c =
     let s = c.before.before.before.before.before.before in
     let l = loop_of s.args.file.now in
-    let u = c.before.before.before.loop-u.u in
-    let e = c.before.slot.ensures in
+    let u = c.loop-u.u in
+    let e = c.slot.ensures in
     ⊎_elim
     (λ w. omega (arith, total_on_lem l s.args.s u (sym e ∙ w.0.taken)))
     (λ w. omega (arith, total_off l s.args.s u (λ q. w.0.left (e ∙ q))))
-    c.if-slot-s.branch
+    c.if-slot-s.branch-raw
 
 returns : tie.Need-returns invariant-loop-u decreases-loop-u
 returns c =
     let s = c.before.before.before.before in
     let l = loop_of s.args.file.now in
-    let e : c.before.loop-u.u ≡ length (all_uses l) = omega arith in
-    rw (← total_all l s.args.s, ← e) c.before.loop-u.invariant.1
+    let e : c.loop-u.u ≡ length (all_uses l) = omega arith in
+    rw (← total_all l s.args.s, ← e) c.loop-u.invariant.1
 
 pub total_on_spec : {M : Type 1} → statement M
 total_on_spec =

@@ -34,22 +34,22 @@ above (pos n) f h = (tt, omega arith)
 above (negsuc n) f h = let z : ◌≡◌ {A = ℕ} 0 1 = cc in absurd (omega arith)
 
 overflow_cast-result : tie.Need-overflow_cast-result
-overflow_cast-result c = let f = c.before.ranges.x in rw (to_z-of_z w32 _ f) (wider f)
+overflow_cast-result c = let f = c.ranges.x in rw (to_z-of_z w32 _ f) (wider f)
 
 overflow_sub-result : tie.Need-overflow_sub-result
 overflow_sub-result c =
-    let f = c.before.ranges.x in
+    let f = c.ranges.x in
     rw (to_z-of_z w32 _ f, to_z-of_z w64 _ (wider f)) (negated _ f (rw (to_z-of_z w32 _ f) at c.if-x-lt0.true))
 
 overflow_cast-result-then-x-lt0 : tie.Need-overflow_cast-result-then-x-lt0
 overflow_cast-result-then-x-lt0 c =
-    let f = c.before.ranges.x in
+    let f = c.ranges.x in
     let h = rw (to_z-of_z w32 _ f) at c.if-x-lt0.true in
     rw (to_z-of_z w32 _ f, to_z-of_z w64 _ (wider f), to_z-of_z w64 _ (negated _ f h)) (below _ f h)
 
 overflow_cast-result-else-x-lt0 : tie.Need-overflow_cast-result-else-x-lt0
 overflow_cast-result-else-x-lt0 c =
-    let f = c.before.ranges.x in
+    let f = c.ranges.x in
     rw (to_z-of_z w32 _ f) (above _ f (rw (to_z-of_z w32 _ f) at c.if-x-lt0.false))
 
 returns-then-x-lt0 : tie.Need-returns-then-x-lt0

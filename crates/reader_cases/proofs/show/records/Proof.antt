@@ -14,8 +14,8 @@ enum_told-1 : tie.Need-enum_told-1
 enum_told-1 c = search rules
 
 -- the file is accepted
-accepted : (c : tie.In-Accepted) → Accepted c.before.before.before.before.args.file.now
-accepted c = (read_accepted _ _ _ _ (sym (ap reading_of c.enum_told-1.given.1) ∙ c.before.before.read.ensures)).file
+accepted : (c : tie.In-Accepted) → Accepted c.args.file.now
+accepted c = (read_accepted _ _ _ _ (sym (ap reading_of c.in-Accepted.is) ∙ c.read.ensures)).file
 
 operations-requires : tie.Need-operations-requires
 operations-requires c κs = accepted c

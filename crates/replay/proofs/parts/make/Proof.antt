@@ -23,35 +23,35 @@ abbrev called : tie.Start → model.Call
 called s = call_of s.args.kind s.args.a s.args.b
 
 is_place : (c : tie.Then-kind-eq1) → let s = start c.before in called s ≡ model.place s.args.a s.args.b
-is_place c = kind_place _ _ _ c.if-kind-eq1.true
+is_place c = kind_place _ _ _ c.if1.true
 
 is_force : (c : tie.Then-kind-eq2) → let s = start c.before.before in called s ≡ model.force s.args.a s.args.b
-is_force c = kind_force _ _ _ c.before.if-kind-eq1.false c.if-kind-eq2.true
+is_force c = kind_force _ _ _ c.before.if1.false c.if2.true
 
 is_remove : (c : tie.Then-kind-eq3) → let s = start c.before.before.before in called s ≡ model.remove s.args.a
-is_remove c = let e = c.before in kind_remove _ _ _ e.before.if-kind-eq1.false e.if-kind-eq2.false c.if-kind-eq3.true
+is_remove c = let e = c.before in kind_remove _ _ _ e.before.if1.false e.if2.false c.if3.true
 
 is_checkpoint : (c : tie.Then-kind-eq4) → called (start c.before.before.before.before) ≡ model.checkpoint
-is_checkpoint c = let e = c.before in let f = e.before in kind_checkpoint _ _ _ f.before.if-kind-eq1.false f.if-kind-eq2.false e.if-kind-eq3.false c.if-kind-eq4.true
+is_checkpoint c = let e = c.before in let f = e.before in kind_checkpoint _ _ _ f.if-kind-eq1.false f.if-kind-eq2.false e.if-kind-eq3.false c.if-kind-eq4.true
 
 is_release : (c : tie.Then-kind-ne6) → called (start c.before.before.before.before.before) ≡ model.release
 is_release c =
     let e = c.before in
     let f = e.before in
     let g = f.before in
-    kind_release _ _ _ g.before.if-kind-eq1.false g.if-kind-eq2.false f.if-kind-eq3.false e.if-kind-eq4.false c.if-kind-ne6.true
+    kind_release _ _ _ g.if-kind-eq1.false g.if-kind-eq2.false f.if-kind-eq3.false e.if-kind-eq4.false c.if-kind-ne6.true
 
 is_rollback : (c : tie.Else-kind-ne6) → let s = start c.before.before.before.before.before in called s ≡ model.rollback s.args.a
 is_rollback c =
     let e = c.before in
     let f = e.before in
     let g = f.before in
-    kind_rollback _ _ _ g.before.if-kind-eq1.false g.if-kind-eq2.false f.if-kind-eq3.false e.if-kind-eq4.false c.if-kind-ne6.false
+    kind_rollback _ _ _ g.before.if1.false g.if2.false f.if3.false e.if4.false c.if6.false
 
 -- ---- starts and rows
 
 place-requires : tie.Need-place-requires
-place-requires c κs = let v = c.before.before.before.before.before.before.requires.valid in (omega (arith, v.stored, v.fits_in), v.board, v.free-1)
+place-requires c κs = let v = c.requires.valid in (omega (arith, v.stored, v.fits_in), v.board, v.free)
 
 told-requires : tie.Need-told-requires
 told-requires c κs = omega arith
@@ -65,7 +65,7 @@ returns-then-kind-eq1 c =
     rw c.told.ensures (turned_did _ (is_place m.before.before.before.before) (λ v ok. stepped_plain _ _ ok (model.place _ _) (λ x cs. refl) (λ x cs. refl) m.place.ensures))
 
 force-requires : tie.Need-force-requires
-force-requires c κs = let v = c.before.before.before.before.before.before.before.requires.valid in (omega (arith, v.stored, v.fits_in), v.board, v.free-1)
+force-requires c κs = let v = c.requires.valid in (omega (arith, v.stored, v.fits_in), v.board, v.free)
 
 told-requires-then-kind-eq2 : tie.Need-told-requires-then-kind-eq2
 told-requires-then-kind-eq2 c κs = omega arith
@@ -80,8 +80,8 @@ returns-then-kind-eq2 c =
 
 remove-requires : tie.Need-remove-requires
 remove-requires c κs =
-    let v = c.before.before.before.before.before.before.before.before.requires.valid in
-    (omega (arith, v.stored, v.fits_in), board_far v.board, v.free-1)
+    let v = c.requires.valid in
+    (omega (arith, v.stored, v.fits_in), board_far v.board, v.free)
 
 told-requires-then-kind-eq3 : tie.Need-told-requires-then-kind-eq3
 told-requires-then-kind-eq3 c κs = omega arith
@@ -151,11 +151,11 @@ restore-requires c κs =
     let t = c.before.before in
     let e = t.before in
     let s = start e.before.before.before.before.before.before in
-    let v = s.pre.valid in
+    let v = s.requires.valid in
     let there : s.args.a ≤ s.args.marks = omega (arith, t.if-marks-a.false) in (
       omega (arith, v.stored, v.fits_in),
       board_far v.board,
-      rw (← ap (λ (p : Kept). p.starts) (s.pre.wanted_is e.before.if-kind-ne6.false (omega (arith, e.if-a-eq0.false)) there)) (sane_more v.board.numbers.far (wanted_sane _ _ v s.args.a e.if-a-eq0.false there blank)),
+      rw (← ap (λ (p : Kept). p.starts) (s.requires.wanted_is e.if-kind-ne6.false (omega (arith, e.if-a-eq0.false)) there)) (sane_more v.board.numbers.far (wanted_sane _ _ v s.args.a e.if-a-eq0.false there blank)),
     )
 
 told-requires-2 : tie.Need-told-requires-2
@@ -169,7 +169,7 @@ returns c =
     let m = c.before.before.before.before in
     let t = m.before.before.before in
     let e = t.before in
-    rw c.told-2.ensures (turned_rollback e.before.if-kind-ne6.false (is_rollback e.before) e.if-a-eq0.false (omega (arith, t.if-marks-a.false)) m.restore.ensures)
+    rw c.told-2.ensures (turned_rollback e.if-kind-ne6.false (is_rollback e.before) e.if-a-eq0.false (omega (arith, t.if-marks-a.false)) m.restore.ensures)
 
 pub make_spec : {M : Type 1} → statement M
 make_spec =

@@ -31,9 +31,9 @@ shape_of-rows c = search rules
 
 returns : tie.Need-returns
 returns c =
-    let a = c.before.args in
+    let a = c.args in
     ap (λ (v : ℕ). set a.rows.now a.row v)
-    (and_not_shl (get_or a.rows.now a.row 0) (a.slot - 1) (c.slice_known-1.given a.row).fits (omega arith) c.before.requires.digit)
+    (and_not_shl (get_or a.rows.now a.row 0) (a.slot - 1) (c.slice_known-1.given a.row).fits (omega arith) c.requires.digit)
 
 pub clear_bit_spec : {M : Type 1} → statement M
 clear_bit_spec =

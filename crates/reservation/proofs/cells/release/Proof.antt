@@ -23,7 +23,7 @@ abbrev decreases-loop-j : tie.decreases-loop-j
 decreases-loop-j file op first start interval rows₀ n j₀ rows j = n - j
 
 use_count-n-requires : tie.Need-use_count-n-requires invariant-loop-j decreases-loop-j
-use_count-n-requires c κs = let p = c.before.before.requires in (p.0, p.1)
+use_count-n-requires c κs = let p = c.requires in (p.0, p.1)
 
 loop-j-init : tie.Need-loop-j-init invariant-loop-j decreases-loop-j
 unfolding over_uses
@@ -35,19 +35,19 @@ entry c = c.before.before.before.before.before
 
 -- the use whose turn it is
 abbrev now-use : tie.In-loop-j invariant-loop-j decreases-loop-j → Use
-now-use c = use_at (op_at (loop_of (entry c).args.file.now) (entry c).args.op) c.before.loop-j.j
+now-use c = use_at (op_at (loop_of (entry c).args.file.now) (entry c).args.op) c.loop-j.j
 
 here : (c : tie.In-loop-j invariant-loop-j decreases-loop-j)
-    → UseHere (entry c).args.file.now (entry c).args.op c.before.loop-j.j ((entry c).args.first + c.before.loop-j.j)
+    → UseHere (entry c).args.file.now (entry c).args.op c.loop-j.j ((entry c).args.first + c.loop-j.j)
 here c =
-    use_here (entry c).args.file.now (entry c).args.op c.before.loop-j.j (entry c).args.first c.before.before.use_count-n.result
-    (entry c).requires.0 (entry c).requires.1 (entry c).requires.3 c.before.before.use_count-n.ensures c.loop-j-test.true
+    use_here (entry c).args.file.now (entry c).args.op c.loop-j.j (entry c).args.first c.use_count-n.result
+    (entry c).requires.0 (entry c).requires.1 (entry c).requires.3 c.use_count-n.ensures c.loop-j-test.true
 
 overflow_add-u : tie.Need-overflow_add-u invariant-loop-j decreases-loop-j
 overflow_add-u c = omega (arith, here c)
 
 offset-requires : tie.Need-offset-requires invariant-loop-j decreases-loop-j
-offset-requires c κs = ((entry c.before).pre.0, (here c.before).inside)
+offset-requires c κs = ((entry c.before).requires.0, (here c.before).inside)
 
 -- what is read of it
 offset_is : (c : tie.After-offset invariant-loop-j decreases-loop-j) → c.offset.result ≡ (now-use c.before.before).offset
@@ -56,17 +56,17 @@ offset_is c = c.offset.ensures ∙ ap (λ (u : Use). u.offset) (here c.before.be
 overflow_add-start : tie.Need-overflow_add-start invariant-loop-j decreases-loop-j
 overflow_add-start c =
     let s = entry c.before.before in
-    let ok = ((accepted_ok s.args.file.now s.pre.0).op_ok s.args.op s.pre.1).each c.before.before.before.loop-j.j (omega arith) in
-    omega (arith, offset_is c, ok, s.pre.2)
+    let ok = ((accepted_ok s.args.file.now s.requires.0).op_ok s.args.op s.requires.1).each c.loop-j.j (omega arith) in
+    omega (arith, offset_is c, ok, s.requires.2)
 
 duration-requires : tie.Need-duration-requires invariant-loop-j decreases-loop-j
-duration-requires c κs = ((entry c.before.before).pre.0, (here c.before.before).inside)
+duration-requires c κs = ((entry c.before.before).requires.0, (here c.before.before).inside)
 
 slot-requires : tie.Need-slot-requires invariant-loop-j decreases-loop-j
-slot-requires c κs = ((entry c.before.before.before).pre.0, (here c.before.before.before).inside)
+slot-requires c κs = ((entry c.before.before.before).requires.0, (here c.before.before.before).inside)
 
-duration_is : (c : tie.After-slot invariant-loop-j decreases-loop-j) → c.before.duration.result ≡ (now-use c.before.before.before.before).duration
-duration_is c = c.before.duration.ensures ∙ ap (λ (u : Use). u.duration) (here c.before.before.before.before).is
+duration_is : (c : tie.After-slot invariant-loop-j decreases-loop-j) → c.duration.result ≡ (now-use c.before.before.before.before).duration
+duration_is c = c.duration.ensures ∙ ap (λ (u : Use). u.duration) (here c.before.before.before.before).is
 
 slot_is : (c : tie.After-slot invariant-loop-j decreases-loop-j) → c.slot.result ≡ (now-use c.before.before.before.before).slot
 slot_is c = c.slot.ensures ∙ ap (λ (u : Use). u.slot) (here c.before.before.before.before).is
@@ -76,9 +76,9 @@ release_use-requires c κs =
     let i = c.before.before.before.before in
     let s = entry i in
     let p = op_at (loop_of s.args.file.now) s.args.op in
-    rw (i.before.loop-j.invariant.1, offset_is c.before.before, duration_is c, slot_is c)
-    (uses_turn (less_one row_base) 1 s.args.rows-1.now s.args.interval s.args.start p less_other ((accepted_ok s.args.file.now s.pre.0).op_ok s.args.op s.pre.1)
-    s.pre.2 i.before.loop-j.j i.before.loop-j.j (le_refl i.before.loop-j.j) (omega (arith, i.before.before.use_count-n.ensures)))
+    rw (i.loop-j.invariant.1, offset_is c.before.before, duration_is c, slot_is c)
+    (uses_turn (less_one row_base) 1 s.args.rows.now s.args.interval s.args.start p less_other ((accepted_ok s.args.file.now s.requires.0).op_ok s.args.op s.requires.1)
+    s.requires.2 i.loop-j.j i.loop-j.j (le_refl i.loop-j.j) (omega (arith, i.use_count-n.ensures)))
 
 overflow_add-j : tie.Need-overflow_add-j invariant-loop-j decreases-loop-j
 overflow_add-j c = omega (arith, here c.before.before.before.before.before.before.before)
@@ -91,15 +91,15 @@ unfolding over_uses
 loop-j-preserved c =
     let t = c.before.before.before in
     let b = t.before.before.before.before.before in
-    (omega arith, rw (c.before.before.release_use.ensures, b.loop-j.invariant.1, offset_is t.before.before, duration_is t, slot_is t, add-one b.loop-j.j))
+    (omega arith, rw (c.release_use.ensures, b.loop-j.invariant.1, offset_is t.before.before, duration_is t, slot_is t, add-one b.loop-j.j))
 
 shape_of-rows : tie.Need-shape_of-rows invariant-loop-j decreases-loop-j
-shape_of-rows c = rw (c.before.loop-j.invariant.1, length_uses)
+shape_of-rows c = rw (c.loop-j.invariant.1, length_uses)
 
 returns : tie.Need-returns invariant-loop-j decreases-loop-j
 returns c =
-    let e : c.before.loop-j.j ≡ c.before.before.use_count-n.result = omega arith in
-    rw (← c.before.before.use_count-n.ensures, ← e) c.before.loop-j.invariant.1
+    let e : c.loop-j.j ≡ c.use_count-n.result = omega arith in
+    rw (← c.use_count-n.ensures, ← e) c.loop-j.invariant.1
 
 pub release_spec : {M : Type 1} → statement M
 release_spec =

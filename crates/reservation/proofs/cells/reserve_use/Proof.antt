@@ -32,7 +32,7 @@ set_bit-requires c κs =
     let s = b.before.before in
     let a = s.args in
     rw b.loop-k.invariant.1
-    (over_turn (with_one row_base a.slot) 0 a.rows-1.now a.interval a.start a.n a.slot s.requires b.loop-k.k (omega arith))
+    (over_turn (with_one row_base a.slot) 0 a.rows.now a.interval a.start a.n a.slot s.requires b.loop-k.k (omega arith))
 
 overflow_add-k : tie.Need-overflow_add-k invariant-loop-k decreases-loop-k
 overflow_add-k c = omega arith
@@ -44,15 +44,15 @@ loop-k-preserved : tie.Need-loop-k-preserved invariant-loop-k decreases-loop-k
 unfolding over_use
 loop-k-preserved c =
     let b = c.before.before.before.before.before in
-    (omega arith, c.before.before.set_bit.ensures ∙ rw (b.loop-k.invariant.1, add-one b.loop-k.k))
+    (omega arith, c.set_bit.ensures ∙ rw (b.loop-k.invariant.1, add-one b.loop-k.k))
 
 shape_of-rows : tie.Need-shape_of-rows invariant-loop-k decreases-loop-k
-shape_of-rows c = rw (c.before.loop-k.invariant.1, length_over)
+shape_of-rows c = rw (c.loop-k.invariant.1, length_over)
 
 returns : tie.Need-returns invariant-loop-k decreases-loop-k
 returns c =
-    let a = c.before.before.before.args in
-    c.before.loop-k.invariant.1 ∙ ap (λ (k : ℕ). over_use (with_one row_base a.slot) a.interval a.start k a.rows-1.now) (omega arith)
+    let a = c.args in
+    c.loop-k.invariant.1 ∙ ap (λ (k : ℕ). over_use (with_one row_base a.slot) a.interval a.start k a.rows.now) (omega arith)
 
 pub reserve_use_spec : {M : Type 1} → statement M
 reserve_use_spec =

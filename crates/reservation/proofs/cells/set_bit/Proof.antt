@@ -31,9 +31,9 @@ shape_of-rows c = search rules
 
 returns : tie.Need-returns
 returns c =
-    let a = c.before.args in
+    let a = c.args in
     ap (λ (v : ℕ). set a.rows.now a.row v)
-    (or_shl (get_or a.rows.now a.row 0) (a.slot - 1) (omega arith) c.before.requires.digit)
+    (or_shl (get_or a.rows.now a.row 0) (a.slot - 1) (omega arith) c.requires.digit)
 
 pub set_bit_spec : {M : Type 1} → statement M
 set_bit_spec =

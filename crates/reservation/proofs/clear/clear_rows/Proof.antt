@@ -33,7 +33,7 @@ loop-i-smaller c = omega arith
 loop-i-preserved : tie.Need-loop-i-preserved invariant-loop-i decreases-loop-i
 loop-i-preserved c =
     let g = c.before in
-    let old = g.before.args.rows.now in
+    let old = g.args.rows.now in
     let j = g.loop-i.i in (
       omega arith,
       ap (λ (l : List ℕ). set l j 0) g.loop-i.invariant.1
@@ -47,9 +47,9 @@ shape_of-rows c = omega arith
 
 returns : tie.Need-returns invariant-loop-i decreases-loop-i
 returns c =
-    let a = c.before.before.args in
-    let done : c.before.loop-i.i ≡ a.n = omega arith in
-    c.before.loop-i.invariant.1 ∙ ap (λ (k : ℕ). replicate k 0 ++ drop k a.rows.now) done
+    let a = c.args in
+    let done : c.loop-i.i ≡ a.n = omega arith in
+    c.loop-i.invariant.1 ∙ ap (λ (k : ℕ). replicate k 0 ++ drop k a.rows.now) done
 
 pub clear_rows_spec : {M : Type 1} → statement M
 clear_rows_spec =

@@ -32,25 +32,25 @@ returns-then-to-op c =
     let u = c.before.before in
     let s = start u in
     sym (breaks_apart s.args.interval s.args.starts.now s.args.op s.args.start (dep s)
-    (λ e. c.before.if-from-op.true (u.before.source-from.ensures ∙ e)) (λ e. c.if-to-op.true (u.target-to.ensures ∙ e)))
+    (λ e. c.if-from-op.true (u.source-from.ensures ∙ e)) (λ e. c.if-to-op.true (u.target-to.ensures ∙ e)))
 
 start_of-s-requires : tie.Need-start_of-s-requires
-start_of-s-requires c κs = omega (arith, (dep_ok (start c.before)).source-from, (start c.before).requires, c.before.before.source-from.ensures)
+start_of-s-requires c κs = omega (arith, (dep_ok (start c.before)).source, (start c.before).requires, c.source-from.ensures)
 
 -- the number of an operation, with `op` at `start`
 abbrev number : tie.Start → ℕ → ℕ
 number s = start_in s.args.starts.now s.args.op s.args.start
 
-source_is : (c : tie.After-start_of-s) → number (start c.before.before) (dep (start c.before.before)).src ≡ c.start_of_lem.result
-source_is c = let u = c.before.before in sym (c.start_of_lem.ensures ∙ ap (number (start u)) u.before.source-from.ensures)
+source_is : (c : tie.After-start_of-s) → number (start c.before.before) (dep (start c.before.before)).src ≡ c.start_of-s.result
+source_is c = let u = c.before.before in sym (c.start_of-s.ensures ∙ ap (number (start u)) u.source-from.ensures)
 
 returns-then-s-eq65535 : tie.Need-returns-then-s-eq65535
 returns-then-s-eq65535 c =
     let s = start c.before.before.before in
-    sym (breaks_free_source s.args.interval s.args.starts.now s.args.op s.args.start (dep s) s.pre.2 (source_is c.before ∙ c.if-s-eq65535.true))
+    sym (breaks_free_source s.args.interval s.args.starts.now s.args.op s.args.start (dep s) s.requires.2 (source_is c.before ∙ c.if-s-eq65535.true))
 
 start_of-t-requires : tie.Need-start_of-t-requires
-start_of-t-requires c κs = let u = c.before.before.before in omega (arith, (dep_ok (start u)).target-to, (start u).requires, u.target-to.ensures)
+start_of-t-requires c κs = let u = c.before.before.before in omega (arith, (dep_ok (start u)).target, (start u).requires, u.target-to.ensures)
 
 abbrev far : tie.After-start_of-t → tie.After-target-to
 far c = c.before.before.before.before
@@ -62,33 +62,33 @@ returns-then-t-eq65535 : tie.Need-returns-then-t-eq65535
 returns-then-t-eq65535 c =
     let b = c.before in
     let s = start (far b) in
-    sym (breaks_free_target s.args.interval s.args.starts.now s.args.op s.args.start (dep s) s.pre.2 (source_is b.before.before) b.before.if-s-eq65535.false
+    sym (breaks_free_target s.args.interval s.args.starts.now s.args.op s.args.start (dep s) s.requires.2 (source_is b.before.before) b.if-s-eq65535.false
     (target_is b ∙ c.if-t-eq65535.true))
 
 -- both numbers fit in 16 bits
 below : (c : tie.After-start_of-t) (p : ℕ) → p < size (loop_of (start (far c)).args.file.now) → number (start (far c)) p < 65536
 below c p l =
     let s = start (far c) in
-    start_below 0 s.args.starts.now s.args.op s.args.start (dep s) p s.pre.2 (omega (arith, s.pre)) (omega (arith, (far c).before.before.shared_slice_known-2-1.given p))
+    start_below 0 s.args.starts.now s.args.op s.args.start (dep s) p s.requires.2 (omega (arith, s.requires)) (omega (arith, (far c).shared_slice_known-2-1.given p))
 
 dep_holds-requires : tie.Need-dep_holds-requires
 dep_holds-requires c κs =
     let b = c.before in
     let s = start (far b) in
-    (s.pre.0, s.pre.1, rw (source_is b.before.before) at (below b (dep s).src (dep_ok s).source-from), rw (target_is b) at (below b (dep s).dst (dep_ok s).target-to), s.pre.3)
+    (s.requires.0, s.requires.1, rw (source_is b.before.before) at (below b (dep s).src (dep_ok s).source), rw (target_is b) at (below b (dep s).dst (dep_ok s).target), s.requires.3)
 
 -- one of the two is `op`
 touched : (c : tie.Joined-from-op) → ((dep (start c.before)).src ≡ (start c.before).args.op) ⊎ ((dep (start c.before)).dst ≡ (start c.before).args.op)
 touched c =
     let u = c.before in
-    ⊎_elim (λ w. inr (sym u.target-to.ensures ∙ w.1.left)) (λ w. inl (sym u.before.source-from.ensures ∙ w.left)) c.if-from-op.branch
+    ⊎_elim (λ w. inr (sym u.target-to.ensures ∙ w.1.left)) (λ w. inl (sym u.source-from.ensures ∙ w.left)) c.if-from-op.branch-raw
 
 returns : tie.Need-returns
 returns c =
     let b = c.before.before in
     let s = start (far b) in
-    sym (breaks_both s.args.interval s.args.starts.now s.args.op s.args.start (dep s) s.pre.2 (touched b.before.before.before)
-    (source_is b.before.before) b.before.if-s-eq65535.false (target_is b) c.before.if-t-eq65535.false c.dep_holds.ensures)
+    sym (breaks_both s.args.interval s.args.starts.now s.args.op s.args.start (dep s) s.requires.2 (touched b.before.before.before)
+    (source_is b.before.before) b.if-s-eq65535.false (target_is b) c.if-t-eq65535.false c.dep_holds.ensures)
 
 pub breaks_at_spec : {M : Type 1} → statement M
 breaks_at_spec =

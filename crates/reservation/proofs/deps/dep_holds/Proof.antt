@@ -28,10 +28,10 @@ distance-requires c κs = search rules
 
 -- the interval times the distance
 abbrev lag : tie.After-distance → ℕ
-lag c = c.before.before.args.interval * c.distance.result
+lag c = c.args.interval * c.distance.result
 
 lag_small : (c : tie.After-distance) → lag c ≤ 4096 * 15
-lag_small c = lag_le c.before.before.args.interval (dep_ok c.before.before) c.before.before.requires.4 c.distance.ensures
+lag_small c = lag_le c.args.interval (dep_ok c.before.before) c.requires.4 c.distance.ensures
 
 overflow_mul-lag : tie.Need-overflow_mul-lag
 overflow_mul-lag c = omega (arith, lag_small c)
@@ -71,7 +71,7 @@ returns c =
     let a = (start c).args in
     let d = (dep (start c)).delay in
     le_as (a.from + plus d) (a.to + lag c.before + minus d) (is_back w32 (overflow_add-due c) (due_is c)) (is_back w32 (overflow_add-result c) (to_is c)) (omega arith)
-    ∙ holds_lag a.interval (dep (start c)) a.from a.to c.before.distance.ensures
+    ∙ holds_lag a.interval (dep (start c)) a.from a.to c.distance.ensures
 
 pub dep_holds_spec : {M : Type 1} → statement M
 dep_holds_spec =

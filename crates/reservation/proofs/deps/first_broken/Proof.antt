@@ -15,7 +15,7 @@ abbrev decreases-loop-e : tie.decreases-loop-e
 decreases-loop-e file op start interval starts m e₀ e = m - e
 
 dep_count-m-requires : tie.Need-dep_count-m-requires invariant-loop-e decreases-loop-e
-dep_count-m-requires c κs = c.before.before.requires.0
+dep_count-m-requires c κs = c.requires.0
 
 loop-e-init : tie.Need-loop-e-init invariant-loop-e decreases-loop-e
 loop-e-init c = none_begin _ _ _ _ _
@@ -25,8 +25,8 @@ abbrev entry : tie.In-loop-e invariant-loop-e decreases-loop-e → tie.Start inv
 entry c = c.before.before.before.before.before
 
 -- the dependence is there
-below : (c : tie.In-loop-e invariant-loop-e decreases-loop-e) → c.before.loop-e.e < length (loop_of (entry c).args.file.now).deps
-below c = omega (arith, c.before.before.dep_count-m.ensures)
+below : (c : tie.In-loop-e invariant-loop-e decreases-loop-e) → c.loop-e.e < length (loop_of (entry c).args.file.now).deps
+below c = omega (arith, c.dep_count-m.ensures)
 
 breaks_at-requires : tie.Need-breaks_at-requires invariant-loop-e decreases-loop-e
 breaks_at-requires c κs = let p = (entry c).requires in (p.0, below c, p.1, p.2, p.3)
@@ -35,7 +35,7 @@ returns-then-breaks_at : tie.Need-returns-then-breaks_at invariant-loop-e decrea
 returns-then-breaks_at c =
     let b = c.before in
     let i = b.before in
-    breach_at i.before.loop-e.invariant b.breaks_at.ensures c.if-breaks_at.true (below i)
+    breach_at i.loop-e.invariant b.breaks_at.ensures c.if-breaks_at.true (below i)
 
 overflow_add-e : tie.Need-overflow_add-e invariant-loop-e decreases-loop-e
 overflow_add-e c = omega arith
@@ -44,10 +44,10 @@ loop-e-smaller : tie.Need-loop-e-smaller invariant-loop-e decreases-loop-e
 loop-e-smaller c = omega arith
 
 loop-e-preserved : tie.Need-loop-e-preserved invariant-loop-e decreases-loop-e
-loop-e-preserved c = let b = c.before in none_next b.before.before.loop-e.invariant b.breaks_at.ensures c.if-breaks_at.false
+loop-e-preserved c = let b = c.before in none_next b.loop-e.invariant b.breaks_at.ensures c.if-breaks_at.false
 
 returns : tie.Need-returns invariant-loop-e decreases-loop-e
-returns c = breach_none c.before.loop-e.invariant (omega (arith, c.before.before.dep_count-m.ensures))
+returns c = breach_none c.loop-e.invariant (omega (arith, c.dep_count-m.ensures))
 
 pub first_broken_spec : {M : Type 1} → statement M
 first_broken_spec =

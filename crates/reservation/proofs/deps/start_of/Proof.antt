@@ -7,7 +7,7 @@ use Rattle.reservation.proofs.deps.start_of.Statement.{statement}
 use Rattle.reservation.proofs.deps.start_of.Tie as tie
 
 returns-then-other-op : tie.Need-returns-then-other-op
-returns-then-other-op c = rw (eq-eqb c.before.args.other c.before.args.op c.if-other-op.true)
+returns-then-other-op c = rw (eq-eqb c.args.other c.args.op c.if-other-op.true)
 
 offset_bounds-starts-other : tie.Need-offset_bounds-starts-other
 offset_bounds-starts-other c = search rules
@@ -16,12 +16,12 @@ bounds-starts-other : tie.Need-bounds-starts-other
 bounds-starts-other c = search rules
 
 overflow_cast-result : tie.Need-overflow_cast-result
-overflow_cast-result c = omega (arith, c.shared_slice_known-1.given c.before.before.args.other)
+overflow_cast-result c = omega (arith, c.shared_slice_known-1.given c.args.other)
 
 returns : tie.Need-returns
 returns c =
-    let a = c.before.before.args in
-    rw (ne_eqb a.other a.op c.before.if-other-op.false) (get_or_within a.starts.now a.other 0 65535 c.before.before.requires)
+    let a = c.args in
+    rw (ne_eqb a.other a.op c.if-other-op.false) (get_or_within a.starts.now a.other 0 65535 c.requires)
 
 pub start_of_spec : {M : Type 1} → statement M
 start_of_spec =

@@ -41,8 +41,8 @@ loop-i-smaller c = omega arith
 loop-i-preserved : tie.Need-loop-i-preserved invariant-loop-i decreases-loop-i
 loop-i-preserved c =
     let g = c.before.before in
-    let old = g.before.args.list.now in
-    let starts = g.before.args.starts.now in
+    let old = g.args.list.now in
+    let starts = g.args.starts.now in
     let j = g.loop-i.i in
     let x = get_or starts j 0 in (
       omega arith,
@@ -57,9 +57,9 @@ shape_of-list c = omega arith
 
 returns : tie.Need-returns invariant-loop-i decreases-loop-i
 returns c =
-    let a = c.before.before.args in
-    let done : c.before.loop-i.i ≡ a.n = omega arith in
-    c.before.loop-i.invariant.1 ∙ ap (λ (k : ℕ). take k a.starts.now ++ drop k a.list.now) done
+    let a = c.args in
+    let done : c.loop-i.i ≡ a.n = omega arith in
+    c.loop-i.invariant.1 ∙ ap (λ (k : ℕ). take k a.starts.now ++ drop k a.list.now) done
 
 pub write_list_spec : {M : Type 1} → statement M
 write_list_spec =

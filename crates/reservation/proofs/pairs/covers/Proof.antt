@@ -24,10 +24,10 @@ abbrev decreases-loop-j : tie.decreases-loop-j
 decreases-loop-j file op start slot- row interval first n j₀ j = n - j
 
 first_use-first-requires : tie.Need-first_use-first-requires invariant-loop-j decreases-loop-j
-first_use-first-requires c κs = (c.before.requires.0, c.before.requires.1)
+first_use-first-requires c κs = (c.requires.0, c.requires.1)
 
 use_count-n-requires : tie.Need-use_count-n-requires invariant-loop-j decreases-loop-j
-use_count-n-requires c κs = (c.before.before.requires.0, c.before.before.requires.1)
+use_count-n-requires c κs = (c.requires.0, c.requires.1)
 
 loop-j-init : tie.Need-loop-j-init invariant-loop-j decreases-loop-j
 loop-j-init c = (omega arith, λ i l. absurd (omega arith))
@@ -40,27 +40,27 @@ abbrev op : tie.In-loop-j invariant-loop-j decreases-loop-j → Op
 op c = op_at (loop_of (start c).args.file.now) (start c).args.op
 
 abbrev at : tie.In-loop-j invariant-loop-j decreases-loop-j → Use
-at c = get_or (all_uses (loop_of (start c).args.file.now)) (c.before.before.before.first_use-first.result + c.before.loop-j.j) no_use
+at c = get_or (all_uses (loop_of (start c).args.file.now)) (c.first_use-first.result + c.loop-j.j) no_use
 
 op_ok : (c : tie.In-loop-j invariant-loop-j decreases-loop-j) → OpOk (op c)
 op_ok c = (accepted_ok (start c).args.file.now (start c).requires.0).op_ok (start c).args.op (start c).requires.1
 
 -- use j of the operation is there
-inside : (c : tie.In-loop-j invariant-loop-j decreases-loop-j) → c.before.loop-j.j < length (op c).uses
-inside c = omega (arith, c.before.before.use_count-n.ensures)
+inside : (c : tie.In-loop-j invariant-loop-j decreases-loop-j) → c.loop-j.j < length (op c).uses
+inside c = omega (arith, c.use_count-n.ensures)
 
-within : (c : tie.In-loop-j invariant-loop-j decreases-loop-j) → c.before.before.before.first_use-first.result + c.before.loop-j.j < length (all_uses (loop_of (start c).args.file.now))
+within : (c : tie.In-loop-j invariant-loop-j decreases-loop-j) → c.first_use-first.result + c.loop-j.j < length (all_uses (loop_of (start c).args.file.now))
 within c =
-    omega (arith, c.before.before.before.first_use-first.ensures, inside c, use_within (loop_of (start c).args.file.now) (start c).args.op (start c).requires.1)
+    omega (arith, c.first_use-first.ensures, inside c, use_within (loop_of (start c).args.file.now) (start c).args.op (start c).requires.1)
 
-is_use : (c : tie.In-loop-j invariant-loop-j decreases-loop-j) → at c ≡ use_at (op c) c.before.loop-j.j
+is_use : (c : tie.In-loop-j invariant-loop-j decreases-loop-j) → at c ≡ use_at (op c) c.loop-j.j
 is_use c =
-    own_use (loop_of (start c).args.file.now) (start c).args.op c.before.before.before.first_use-first.result c.before.loop-j.j (start c).requires.1
-    c.before.before.before.first_use-first.ensures (inside c)
+    own_use (loop_of (start c).args.file.now) (start c).args.op c.first_use-first.result c.loop-j.j (start c).requires.1
+    c.first_use-first.ensures (inside c)
 
 -- all uses end within 16 cycles
 short : (c : tie.In-loop-j invariant-loop-j decreases-loop-j) → (at c).offset + (at c).duration ≤ 16
-short c = rw (is_use c) ((op_ok c).each c.before.loop-j.j (inside c)).ends
+short c = rw (is_use c) ((op_ok c).each c.loop-j.j (inside c)).ends
 
 overflow_add-u : tie.Need-overflow_add-u invariant-loop-j decreases-loop-j
 overflow_add-u c = omega (arith, within c, all_few (loop_of (start c).args.file.now) (accepted_ok (start c).args.file.now (start c).requires.0))
@@ -75,19 +75,19 @@ overflow_add-begin : tie.Need-overflow_add-begin invariant-loop-j decreases-loop
 overflow_add-begin c = let i = c.before.before.before in omega (arith, (start i).requires, c.offset.ensures, short i)
 
 nonzero_rem-begin : tie.Need-nonzero_rem-begin invariant-loop-j decreases-loop-j
-nonzero_rem-begin c = omega (arith, (start c.before.before.before).pre)
+nonzero_rem-begin c = omega (arith, (start c.before.before.before).requires)
 
 overflow_add-row : tie.Need-overflow_add-row invariant-loop-j decreases-loop-j
-overflow_add-row c = omega (arith, (start c.before.before.before).pre)
+overflow_add-row c = omega (arith, (start c.before.before.before).requires)
 
 overflow_sub-row : tie.Need-overflow_sub-row invariant-loop-j decreases-loop-j
 overflow_sub-row c =
     let s = start c.before.before.before in
-    let below : (s.args.start + c.offset.result) % s.args.interval < s.args.interval = mod-lt (s.args.start + c.offset.result) (omega (arith, s.pre)) in
+    let below : (s.args.start + c.offset.result) % s.args.interval < s.args.interval = mod-lt (s.args.start + c.offset.result) (omega (arith, s.requires)) in
     omega arith
 
 nonzero_rem-row : tie.Need-nonzero_rem-row invariant-loop-j decreases-loop-j
-nonzero_rem-row c = omega (arith, (start c.before.before.before).pre)
+nonzero_rem-row c = omega (arith, (start c.before.before.before).requires)
 
 duration-requires : tie.Need-duration-requires invariant-loop-j decreases-loop-j
 duration-requires c κs = let i = c.before.before.before in ((start i).requires.0, within i)
@@ -97,14 +97,14 @@ returns-then-row-interval c =
     let i = c.before.before.before.before.before in
     let s = start i in
     let g = s.args in
-    sym (pass_covers g.interval (omega (arith, s.pre)) (op i) (op_ok i) g.start g.slot- g.row s.pre.3 i.before.loop-j.j (inside i)
-    (pass_on g.interval g.start g.slot- g.row (at i) (use_at (op i) i.before.loop-j.j) (is_use i)
-    c.before.before.before.before.slot.result c.before.before.before.before.slot.ensures
-    c.before.before.offset.result c.before.duration.result c.before.before.offset.ensures c.before.duration.ensures
-    c.before.before.before.if-slot-slot_.true c.if-row-interval.true))
+    sym (pass_covers g.interval (omega (arith, s.requires)) (op i) (op_ok i) g.start g.slot- g.row s.requires.3 i.loop-j.j (inside i)
+    (pass_on g.interval g.start g.slot- g.row (at i) (use_at (op i) i.loop-j.j) (is_use i)
+    c.slot.result c.slot.ensures
+    c.offset.result c.duration.result c.offset.ensures c.duration.ensures
+    c.if-slot-slot_.true c.if-row-interval.true))
 
 overflow_add-j : tie.Need-overflow_add-j invariant-loop-j decreases-loop-j
-overflow_add-j c = omega (arith, (start c.before.before).good)
+overflow_add-j c = omega (arith, (start c.before.before).well_formed)
 
 loop-j-smaller : tie.Need-loop-j-smaller invariant-loop-j decreases-loop-j
 loop-j-smaller c = omega arith
@@ -113,14 +113,14 @@ loop-j-preserved : tie.Need-loop-j-preserved invariant-loop-j decreases-loop-j
 loop-j-preserved c =
     let i = c.before.before in
     let g = (start i).args in
-    let x = c.before.slot in (
+    let x = c.slot in (
       omega arith,
-      below_more _ i.before.loop-j.j i.before.loop-j.invariant.1
+      below_more _ i.loop-j.j i.loop-j.invariant.1
           (⊎_elim
-          (λ w. pass_over g.interval g.start g.slot- g.row (at i) (use_at (op i) i.before.loop-j.j) (is_use i) x.result x.ensures
+          (λ w. pass_over g.interval g.start g.slot- g.row (at i) (use_at (op i) i.loop-j.j) (is_use i) x.result x.ensures
           w.1.result w.2.result w.1.ensures w.2.ensures w.0.taken w.3.left)
-          (λ w. pass_away g.interval g.start g.slot- g.row (at i) (use_at (op i) i.before.loop-j.j) (is_use i) x.result x.ensures w.left)
-          c.if-slot-slot_.branch),
+          (λ w. pass_away g.interval g.start g.slot- g.row (at i) (use_at (op i) i.loop-j.j) (is_use i) x.result x.ensures w.left)
+          c.if-slot-slot_.branch-raw),
     )
 
 returns : tie.Need-returns invariant-loop-j decreases-loop-j
@@ -130,7 +130,7 @@ returns c =
     let g = s.args in
     let f = g.file.now in
     sym (none_covers g.interval (omega (arith, s.requires)) (op_at (loop_of f) g.op) ((accepted_ok f s.requires.0).op_ok g.op s.requires.1) g.start g.slot- g.row
-    s.requires.3 (λ j l. h.loop-j.invariant.1 j (omega (arith, h.before.use_count-n.ensures))))
+    s.requires.3 (λ j l. h.loop-j.invariant.1 j (omega (arith, h.use_count-n.ensures))))
 
 pub covers_spec : {M : Type 1} → statement M
 covers_spec =

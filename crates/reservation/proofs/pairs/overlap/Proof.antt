@@ -23,10 +23,10 @@ abbrev decreases-loop-j : tie.decreases-loop-j
 decreases-loop-j file a from b to interval first n j₀ j = n - j
 
 first_use-first-requires : tie.Need-first_use-first-requires invariant-loop-j decreases-loop-j
-first_use-first-requires c κs = (c.before.requires.0, c.before.requires.1)
+first_use-first-requires c κs = (c.requires.0, c.requires.1)
 
 use_count-n-requires : tie.Need-use_count-n-requires invariant-loop-j decreases-loop-j
-use_count-n-requires c κs = (c.before.before.requires.0, c.before.before.requires.1)
+use_count-n-requires c κs = (c.requires.0, c.requires.1)
 
 loop-j-init : tie.Need-loop-j-init invariant-loop-j decreases-loop-j
 loop-j-init c = (omega arith, λ i l. absurd (omega arith))
@@ -45,35 +45,35 @@ one_ok : (s : tie.Start invariant-loop-j decreases-loop-j) → OpOk (one s)
 one_ok s = (accepted_ok s.args.file.now s.requires.0).op_ok s.args.a s.requires.1
 
 -- use j of the first operation is there
-inside : (c : tie.In-loop-j invariant-loop-j decreases-loop-j) → c.before.loop-j.j < length (one (start c.before)).uses
-inside c = omega (arith, c.before.before.use_count-n.ensures)
+inside : (c : tie.In-loop-j invariant-loop-j decreases-loop-j) → c.loop-j.j < length (one (start c.before)).uses
+inside c = omega (arith, c.use_count-n.ensures)
 
-within : (c : tie.In-loop-j invariant-loop-j decreases-loop-j) → c.before.before.before.first_use-first.result + c.before.loop-j.j < length (all_uses (loop_of (start c.before).args.file.now))
+within : (c : tie.In-loop-j invariant-loop-j decreases-loop-j) → c.first_use-first.result + c.loop-j.j < length (all_uses (loop_of (start c.before).args.file.now))
 within c =
     let s = start c.before in
-    omega (arith, c.before.before.before.first_use-first.ensures, inside c, use_within (loop_of s.args.file.now) s.args.a s.pre.1)
+    omega (arith, c.first_use-first.ensures, inside c, use_within (loop_of s.args.file.now) s.args.a s.requires.1)
 
 -- use j of it, as the walk reads it
 is_use : (c : tie.In-loop-j invariant-loop-j decreases-loop-j)
-    → get_or (all_uses (loop_of (start c.before).args.file.now)) (c.before.before.before.first_use-first.result + c.before.loop-j.j) no_use
-    ≡ use_at (one (start c.before)) c.before.loop-j.j
+    → get_or (all_uses (loop_of (start c.before).args.file.now)) (c.first_use-first.result + c.loop-j.j) no_use
+    ≡ use_at (one (start c.before)) c.loop-j.j
 is_use c =
     let s = start c.before in
-    let f = c.before.before.before.first_use-first in
-    own_use (loop_of s.args.file.now) s.args.a f.result c.before.loop-j.j s.pre.1 f.ensures (inside c)
+    let f = c.first_use-first in
+    own_use (loop_of s.args.file.now) s.args.a f.result c.loop-j.j s.requires.1 f.ensures (inside c)
 
 overflow_add-first : tie.Need-overflow_add-first invariant-loop-j decreases-loop-j
-overflow_add-first c = let s = start c.before in omega (arith, within c, all_few (loop_of s.args.file.now) (accepted_ok s.args.file.now s.pre.0))
+overflow_add-first c = let s = start c.before in omega (arith, within c, all_few (loop_of s.args.file.now) (accepted_ok s.args.file.now s.requires.0))
 
 use_meets-requires : tie.Need-use_meets-requires invariant-loop-j decreases-loop-j
-use_meets-requires c κs = let p = (start c.before).pre in (p.0, within c, p.2, p.3, p.4, p.5, p.6)
+use_meets-requires c κs = let p = (start c.before).requires in (p.0, within c, p.2, p.3, p.4, p.5, p.6)
 
 -- whether use j of the first operation meets the second
 abbrev test : tie.Start invariant-loop-j decreases-loop-j → ℕ → Bool
 test s j = use_meets s.args.interval (other s) s.args.from s.args.to (use_at (one s) j)
 
 -- the call says it
-told : (c : tie.After-use_meets invariant-loop-j decreases-loop-j) → test (start c.before.before) c.before.before.loop-j.j ≡ c.use_meets.result
+told : (c : tie.After-use_meets invariant-loop-j decreases-loop-j) → test (start c.before.before) c.loop-j.j ≡ c.use_meets.result
 told c = rw (← is_use c.before) (sym c.use_meets.ensures)
 
 returns-then-use_meets : tie.Need-returns-then-use_meets invariant-loop-j decreases-loop-j
@@ -81,7 +81,7 @@ returns-then-use_meets c =
     let i = c.before.before in
     let s = start i.before in
     let g = s.args in
-    sym (uses_some g.interval s.pre.5 (one s) (other s) (one_ok s) g.from g.to i.before.loop-j.j (inside i) (told c.before ∙ c.if-use_meets.true))
+    sym (uses_some g.interval s.requires.5 (one s) (other s) (one_ok s) g.from g.to i.loop-j.j (inside i) (told c.before ∙ c.if-use_meets.true))
 
 overflow_add-j : tie.Need-overflow_add-j invariant-loop-j decreases-loop-j
 overflow_add-j c = omega arith
@@ -99,7 +99,7 @@ returns c =
     let h = c.before in
     let s = start h in
     let g = s.args in
-    sym (uses_none g.interval s.pre.5 (one s) (other s) (one_ok s) g.from g.to (λ j l. h.loop-j.invariant.1 j (omega (arith, h.before.use_count-n.ensures))))
+    sym (uses_none g.interval s.requires.5 (one s) (other s) (one_ok s) g.from g.to (λ j l. h.loop-j.invariant.1 j (omega (arith, h.use_count-n.ensures))))
 
 pub overlap_spec : {M : Type 1} → statement M
 overlap_spec =

@@ -27,11 +27,11 @@ abbrev start : tie.At-loop-k invariant-loop-k decreases-loop-k → tie.Start inv
 start c = c.before.before
 
 -- a turn's cycle is one of the 16
-early : (c : tie.In-loop-k invariant-loop-k decreases-loop-k) → c.before.loop-k.k < 16
+early : (c : tie.In-loop-k invariant-loop-k decreases-loop-k) → c.loop-k.k < 16
 early c = omega arith
 
 shared_in-place-requires : tie.Need-shared_in-place-requires invariant-loop-k decreases-loop-k
-shared_in-place-requires c κs = let p = (start c.before).pre in (p.0, p.1, p.2, p.3, p.4, early c, p.5, p.6)
+shared_in-place-requires c κs = let p = (start c.before).requires in (p.0, p.1, p.2, p.3, p.4, early c, p.5, p.6)
 
 enum_told-1 : tie.Need-enum_told-1 invariant-loop-k decreases-loop-k
 enum_told-1 c = omega arith
@@ -41,12 +41,12 @@ enum_told-in_default c = omega arith
 
 returns-in_default : tie.Need-returns-in_default invariant-loop-k decreases-loop-k
 returns-in_default c =
-    let b = c.before.before in
+    let b = c.before in
     let h = b.before.before in
     let a = (start h).args in
     let l = loop_of a.file.now in
     cycles_found single (used_by a.interval (op_at l a.a) a.from) false a.interval (op_at l a.b) a.to h.loop-k.k b.shared_in-place.result _ _
-    (early b.before) h.loop-k.invariant.1 b.shared_in-place.ensures c.enum_told-in_default-1.given.1
+    (early b.before) h.loop-k.invariant.1 b.shared_in-place.ensures c.in_default.is
 
 overflow_add-k : tie.Need-overflow_add-k invariant-loop-k decreases-loop-k
 overflow_add-k c = omega arith
@@ -56,9 +56,9 @@ loop-k-smaller c = omega arith
 
 loop-k-preserved : tie.Need-loop-k-preserved invariant-loop-k decreases-loop-k
 loop-k-preserved c =
-    let b = c.before.before in
+    let b = c.before in
     let h = b.before.before in
-    (omega (arith, early b.before), below_more _ h.loop-k.k h.loop-k.invariant.1 (free_at b.shared_in-place.result h.loop-k.k _ b.shared_in-place.ensures c.enum_told-1.given.1))
+    (omega (arith, early b.before), below_more _ h.loop-k.k h.loop-k.invariant.1 (free_at b.shared_in-place.result h.loop-k.k _ b.shared_in-place.ensures c.in-Free.is))
 
 returns : tie.Need-returns invariant-loop-k decreases-loop-k
 returns c =

@@ -27,7 +27,7 @@ returns-then-not-covers_cycle c = let t = c.before in rw (sym t.covers_cycle.ens
 
 -- past the test the use covers the cycle
 covered : (c : tie.Else-not-covers_cycle) → let s = start c.before in covers s.args.k (use-of s) ≡ true
-covered c = let t = c.before in sym t.covers_cycle.ensures ∙ not-false t.covers_cycle.result c.if-not-covers_cycle.false
+covered c = let t = c.before in sym t.covers-cycle.ensures ∙ not-false t.covers-cycle.result c.if1.false
 
 slot-requires : tie.Need-slot-requires
 slot-requires c κs = search rules
@@ -41,7 +41,7 @@ nonzero_rem-to c = search rules
 covers-requires : tie.Need-covers-requires
 covers-requires c κs =
     let s = start c.before.before in
-    let p = s.pre in
+    let p = s.requires in
     (p.0, p.1, p.3, mod-lt (s.args.to + s.args.k) {m = s.args.interval} p.6, p.7)
 
 returns : tie.Need-returns
@@ -49,7 +49,7 @@ returns c =
     let e = c.before.before in
     let s = start e.before in
     let a = s.args in
-    (rw c.before.slot.ensures at c.covers.ensures) ∙ sym (shared_cell a.interval a.from a.to a.k (op_at (loop_of a.file.now) a.a) (use-of s) (covered e))
+    (rw c.slot.ensures at c.covers.ensures) ∙ sym (shared_cell a.interval a.from a.to a.k (op_at (loop_of a.file.now) a.a) (use-of s) (covered e))
 
 pub shares_spec : {M : Type 1} → statement M
 shares_spec =

@@ -28,20 +28,20 @@ abbrev at : tie.Start invariant-loop-k decreases-loop-k → Use
 at s = get_or (all_uses (loop_of s.args.file.now)) s.args.u no_use
 
 -- all uses end within 16 cycles
-short : (s : tie.Start invariant-loop-k decreases-loop-k) → (at s).offset + (at s).duration-n ≤ 16
+short : (s : tie.Start invariant-loop-k decreases-loop-k) → (at s).offset + (at s).duration ≤ 16
 short s = (all_ok (loop_of s.args.file.now) (accepted_ok s.args.file.now s.requires.0) s.args.u s.requires.1).ends
 
 offset-requires : tie.Need-offset-requires invariant-loop-k decreases-loop-k
-offset-requires c κs = (c.before.requires.0, c.before.requires.1)
+offset-requires c κs = (c.requires.0, c.requires.1)
 
 overflow_add-begin : tie.Need-overflow_add-begin invariant-loop-k decreases-loop-k
 overflow_add-begin c = let s = c.before.before in omega (arith, s.requires, c.offset.ensures, short s)
 
 slot-on-requires : tie.Need-slot-on-requires invariant-loop-k decreases-loop-k
-slot-on-requires c κs = (c.before.before.requires.0, c.before.before.requires.1)
+slot-on-requires c κs = (c.requires.0, c.requires.1)
 
 duration-n-requires : tie.Need-duration-n-requires invariant-loop-k decreases-loop-k
-duration-n-requires c κs = (c.before.before.before.requires.0, c.before.before.before.requires.1)
+duration-n-requires c κs = (c.requires.0, c.requires.1)
 
 loop-k-init : tie.Need-loop-k-init invariant-loop-k decreases-loop-k
 loop-k-init c = (omega arith, λ i l. absurd (omega arith))
@@ -52,34 +52,34 @@ start c = c.before.before.before.before.before
 overflow_add-begin-in-loop-k : tie.Need-overflow_add-begin-in-loop-k invariant-loop-k decreases-loop-k
 overflow_add-begin-in-loop-k c =
     let h = c.before in
-    omega (arith, (start h).requires, h.before.before.before.offset.ensures, h.before.duration-n.ensures, short (start h))
+    omega (arith, (start h).requires, h.offset.ensures, h.duration-n.ensures, short (start h))
 
 nonzero_rem-begin : tie.Need-nonzero_rem-begin invariant-loop-k decreases-loop-k
-nonzero_rem-begin c = omega (arith, (start c.before).pre)
+nonzero_rem-begin c = omega (arith, (start c.before).requires)
 
 covers-requires : tie.Need-covers-requires invariant-loop-k decreases-loop-k
 covers-requires c κs =
     let h = c.before in
     let p = (start h).requires in
-    (p.0, p.2, p.4, mod-lt ((start h).args.from + h.before.before.before.offset.result + h.loop-k.k) (omega (arith, p)), p.6)
+    (p.0, p.2, p.4, mod-lt ((start h).args.from + h.offset.result + h.loop-k.k) (omega (arith, p)), p.6)
 
 -- whether operation b covers the cell of cycle k
 abbrev test : tie.At-loop-k invariant-loop-k decreases-loop-k → ℕ → Bool
 test h k =
     let g = (start h).args in
-    covers_cell g.interval (op_at (loop_of g.file.now) g.b) g.to h.before.before.slot-on.result ((g.from + h.before.before.before.offset.result + k) % g.interval)
+    covers_cell g.interval (op_at (loop_of g.file.now) g.b) g.to h.slot-on.result ((g.from + h.offset.result + k) % g.interval)
 
 -- the call says it
-told : (c : tie.After-covers invariant-loop-k decreases-loop-k) → test c.before.before c.before.before.loop-k.k ≡ c.covers.result
+told : (c : tie.After-covers invariant-loop-k decreases-loop-k) → test c.before.before c.loop-k.k ≡ c.covers.result
 told c = sym c.covers.ensures
 
 returns-then-covers : tie.Need-returns-then-covers invariant-loop-k decreases-loop-k
 returns-then-covers c =
     let h = c.before.before.before in
     let g = (start h).args in
-    let x = h.before.before.slot-on in
-    let y = h.before.before.before.offset in
-    let z = h.before.duration-n in
+    let x = h.slot-on in
+    let y = h.offset in
+    let z = h.duration-n in
     sym (meets_some g.interval (op_at (loop_of g.file.now) g.b) g.from g.to (at (start h)) x.result y.result z.result x.ensures y.ensures z.ensures
     h.loop-k.k (omega arith) (told c.before ∙ c.if-covers.true))
 
@@ -98,9 +98,9 @@ returns : tie.Need-returns invariant-loop-k decreases-loop-k
 returns c =
     let h = c.before in
     let g = (start h).args in
-    let x = h.before.before.slot-on in
-    let y = h.before.before.before.offset in
-    let z = h.before.duration-n in
+    let x = h.slot-on in
+    let y = h.offset in
+    let z = h.duration-n in
     sym (meets_none g.interval (op_at (loop_of g.file.now) g.b) g.from g.to (at (start h)) x.result y.result z.result x.ensures y.ensures z.ensures
     (λ k l. h.loop-k.invariant.1 k (omega arith)))
 

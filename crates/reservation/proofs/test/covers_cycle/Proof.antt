@@ -23,19 +23,19 @@ offset-from-requires : tie.Need-offset-from-requires
 offset-from-requires c κs = search rules
 
 returns-then-k-from : tie.Need-returns-then-k-from
-returns-then-k-from c = let s = start c.before in rw (lt-leb (use-of s).offset-from s.args.k (omega (arith, c.before.offset-from.ensures)))
+returns-then-k-from c = let s = start c.before in rw (lt-leb (use-of s).offset s.args.k (omega (arith, c.offset-from.ensures)))
 
 duration-requires : tie.Need-duration-requires
 duration-requires c κs = search rules
 
 overflow_add-result : tie.Need-overflow_add-result
-overflow_add-result c = omega (arith, (use_ok (start c.before.before)).ends, c.before.before.offset-from.ensures, c.duration.ensures)
+overflow_add-result c = omega (arith, (use_ok (start c.before.before)).ends, c.offset-from.ensures, c.duration.ensures)
 
 returns : tie.Need-returns
 returns c =
     let o = c.before.before in
     let s = start o in
-    rw (o.offset-from.ensures, c.duration.ensures, le-leb (use-of s).offset-from s.args.k (omega (arith, o.offset-from.ensures)))
+    rw (o.offset-from.ensures, c.duration.ensures, le-leb (use-of s).offset s.args.k (omega (arith, o.offset-from.ensures)))
 
 pub covers_cycle_spec : {M : Type 1} → statement M
 covers_cycle_spec = tie.close (tie.spec offset-from-requires returns-then-k-from duration-requires overflow_add-result returns)

@@ -7,23 +7,23 @@ use Rattle.reservation.proofs.test.is_free.Statement.{statement}
 use Rattle.reservation.proofs.test.is_free.Tie as tie
 
 conflict-requires : tie.Need-conflict-requires
-conflict-requires c κs = c.before.before.requires
+conflict-requires c κs = c.requires
 
 enum_told-1 : tie.Need-enum_told-1
-enum_told-1 c = c.match.keys1
+enum_told-1 c = c.in-Free-1.keys1
 
 returns-in-Free : tie.Need-returns-in-Free
 returns-in-Free c =
-    let d = c.before.before in
-    record { yes = λ e. free_place d.conflict.result _ d.conflict.ensures c.enum_told-1.given.1; no = true_false }
+    let d = c.before in
+    record { yes = λ e. free_place d.conflict.result _ d.conflict.ensures c.in-Free.is; no = true_false }
 
 enum_told-in_default : tie.Need-enum_told-in_default
-enum_told-in_default c = c.match.keys2
+enum_told-in_default c = c.in_default-1.keys2
 
 returns : tie.Need-returns
 returns c =
-    let d = c.before.before in
-    record { yes = λ e. true_false (sym e); no = λ e. taken_place d.conflict.result _ _ _ d.conflict.ensures c.enum_told-in_default-1.given.1 }
+    let d = c.before in
+    record { yes = λ e. true_false (sym e); no = λ e. taken_place d.conflict.result _ _ _ d.conflict.ensures c.in_default.is }
 
 pub is_free_spec : {M : Type 1} → statement M
 is_free_spec = tie.close (tie.spec conflict-requires enum_told-1 returns-in-Free enum_told-in_default returns)

@@ -38,25 +38,25 @@ abbrev start : tie.At-loop-k invariant-loop-k decreases-loop-k → tie.Start inv
 start c = c.before.before
 
 -- a turn's cycle is one of the 16
-early : (c : tie.In-loop-k invariant-loop-k decreases-loop-k) → c.before.loop-k.k < 16
+early : (c : tie.In-loop-k invariant-loop-k decreases-loop-k) → c.loop-k.k < 16
 early c = omega arith
 
 taken_in-c-requires : tie.Need-taken_in-c-requires invariant-loop-k decreases-loop-k
-taken_in-c-requires c κs = let p = (start c.before).pre in (p.0, p.1, early c, p.3, p.4)
+taken_in-c-requires c κs = let p = (start c.before).requires in (p.0, p.1, early c, p.3, p.4)
 
 enum_known-c : tie.Need-enum_known-c invariant-loop-k decreases-loop-k
 enum_known-c c = search rules
 
 returns-in-Taken : tie.Need-returns-in-Taken invariant-loop-k decreases-loop-k
 returns-in-Taken c = λ s.
-    let b = c.before.before.before in
+    let b = c.before in
     let i = b.before in
     let h = i.before in
     let w = start h in
     let a = w.args in
-    sym (ap place_is (own_same row_base a.interval (op_at (loop_of a.file.now) a.op) w.pre.2 s)
-    ∙ place_taken row_base a.interval [] 0 (uses w) h.loop-k.k c.before.c-1.given.0.0 (cycles_of (uses w)) b.taken_in-c.result
-    (early i) h.loop-k.invariant.2 b.taken_in-c.ensures c.before.c-1.given.1)
+    sym (ap place_is (own_same row_base a.interval (op_at (loop_of a.file.now) a.op) w.requires.2 s)
+    ∙ place_taken row_base a.interval [] 0 (uses w) h.loop-k.k c.in-Taken.s (cycles_of (uses w)) b.taken_in-c.result
+    (early i) h.loop-k.invariant.2 b.taken_in-c.ensures c.in-Taken.is)
 
 enum_known-c-in-Free-1 : tie.Need-enum_known-c-in-Free-1 invariant-loop-k decreases-loop-k
 enum_known-c-in-Free-1 c = search rules
@@ -69,25 +69,25 @@ loop-k-smaller c = omega arith
 
 -- where the test finds nothing in cycle k, it says how many cycles the uses cover
 abbrev turn : tie.In-Free invariant-loop-k decreases-loop-k → tie.At-loop-k invariant-loop-k decreases-loop-k
-turn c = c.before.before.before.before.before
+turn c = c.before.before.before
 
 told : (c : tie.In-Free invariant-loop-k decreases-loop-k)
-    → let w = start (turn c) in (met_in row_base w.args.interval 0 (turn c).loop-k.k (uses w) ≡ none) × (c.before.c-in-Free-1.given.0.0 ≡ cycles_of (uses w))
+    → let w = start (turn c) in (met_in row_base w.args.interval 0 (turn c).loop-k.k (uses w) ≡ none) × (c.in-Free.m ≡ cycles_of (uses w))
 told c =
-    let b = c.before.before.before in
-    cycle_free b.taken_in-c.result c.before.c-in-Free-1.given.0.0 (cycles_of (uses (start (turn c)))) _ b.taken_in-c.ensures c.before.c-in-Free-1.given.1
+    let b = c.before in
+    cycle_free b.taken_in-c.result c.in-Free.m (cycles_of (uses (start (turn c)))) _ b.taken_in-c.ensures c.in-Free.is
 
 loop-k-preserved : tie.Need-loop-k-preserved invariant-loop-k decreases-loop-k
 loop-k-preserved c =
     let h = turn c in
-    (omega (arith, (told c).1, few (start h)), omega (arith, (told c).1), below_more _ h.loop-k.k h.loop-k.inv.2 (told c).0)
+    (omega (arith, (told c).1, few (start h)), omega (arith, (told c).1), below_more _ h.loop-k.k h.loop-k.invariant.2 (told c).0)
 
 returns : tie.Need-returns invariant-loop-k decreases-loop-k
 returns c = λ s.
     let h = c.before in
     let b = start h in
     let a = b.args in
-    sym (ap place_is (own_same row_base a.interval (op_at (loop_of a.file.now) a.op) b.pre.2 s)
+    sym (ap place_is (own_same row_base a.interval (op_at (loop_of a.file.now) a.op) b.requires.2 s)
     ∙ place_free row_base a.interval [] 0 (uses b) h.loop-k.k h.loop-k.invariant.2 (omega arith))
 
 pub own_place_spec : {M : Type 1} → statement M

@@ -40,7 +40,7 @@ covered c =
     let t = c.before in
     let s = start t in
     let u = use-of s in
-    let e : covers s.args.k u ≡ true = sym t.covers_cycle.ensures ∙ not-false t.covers_cycle.result c.if-not-covers_cycle.false in
+    let e : covers s.args.k u ≡ true = sym t.covers-cycle.ensures ∙ not-false t.covers-cycle.result c.if1.false in
     let begun = leb u.offset s.args.k in
     let going = ltb s.args.k (u.offset + u.duration) in
     (leb-true _ _ (and_left begun going e), ltb-true _ _ (and_right begun going e))
@@ -49,7 +49,7 @@ offset-requires : tie.Need-offset-requires
 offset-requires c κs = search rules
 
 overflow_add-offset : tie.Need-overflow_add-offset
-overflow_add-offset c = let s = start c.before.before in omega (arith, (use_ok s).ends, c.offset.ensures, s.pre.3)
+overflow_add-offset c = let s = start c.before.before in omega (arith, (use_ok s).ends, c.offset.ensures, s.requires.3)
 
 returns-then-offset-interval : tie.Need-returns-then-offset-interval
 returns-then-offset-interval c =

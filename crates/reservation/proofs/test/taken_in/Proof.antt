@@ -31,7 +31,7 @@ abbrev decreases-loop-j : tie.decreases-loop-j
 decreases-loop-j file op first k interval row n most₀ j₀ most j = n - j
 
 use_count-n-requires : tie.Need-use_count-n-requires invariant-loop-j decreases-loop-j
-use_count-n-requires c κs = let p = c.before.requires in (p.0, p.1)
+use_count-n-requires c κs = let p = c.requires in (p.0, p.1)
 
 loop-j-init : tie.Need-loop-j-init invariant-loop-j decreases-loop-j
 unfolding max_of
@@ -52,20 +52,20 @@ here : (c : tie.In-loop-j invariant-loop-j decreases-loop-j)
 here c =
     let h = c.before in
     let s = start h in
-    use_here s.args.file.now s.args.op h.loop-j.j s.args.first h.before.use_count-n.result
-    s.pre.0 s.pre.1 s.pre.4 h.before.use_count-n.ensures c.loop-j-test.true
+    use_here s.args.file.now s.args.op h.loop-j.j s.args.first h.use_count-n.result
+    s.requires.0 s.requires.1 s.requires.4 h.use_count-n.ensures c.loop-j-test.true
 
-inside : (c : tie.In-loop-j invariant-loop-j decreases-loop-j) → c.before.loop-j.j < length (uses c.before)
-inside c = omega (arith, c.before.before.use_count-n.ensures)
+inside : (c : tie.In-loop-j invariant-loop-j decreases-loop-j) → c.loop-j.j < length (uses c.before)
+inside c = omega (arith, c.use_count-n.ensures)
 
 overflow_add-u : tie.Need-overflow_add-u invariant-loop-j decreases-loop-j
 overflow_add-u c = omega (arith, (here c).small)
 
 taken-requires : tie.Need-taken-requires invariant-loop-j decreases-loop-j
-taken-requires c κs = let p = (start c.before).pre in (p.0, (here c).inside, p.2, p.3)
+taken-requires c κs = let p = (start c.before).requires in (p.0, (here c).inside, p.2, p.3)
 
 slot-requires : tie.Need-slot-requires invariant-loop-j decreases-loop-j
-slot-requires c κs = let i = c.before.before in ((start i.before).pre.0, (here i).inside)
+slot-requires c κs = let i = c.before.before in ((start i.before).requires.0, (here i).inside)
 
 -- whether a use meets a taken cell
 abbrev test : tie.At-loop-j invariant-loop-j decreases-loop-j → Use → Bool
@@ -81,30 +81,30 @@ returns-then-taken c =
     let b = c.before.before in
     let i = b.before in
     let h = i.before in
-    let found = first_at (test h) (uses h) no_use h.loop-j.j (inside i) h.loop-j.invariant.2 (sym (told b) ∙ c.before.if-taken.true) in
+    let found = first_at (test h) (uses h) no_use h.loop-j.j (inside i) h.loop-j.invariant.2 (sym (told b) ∙ c.if-taken.true) in
     ap cycle.Taken (c.slot.ensures ∙ ap (λ (u : Use). u.slot) (here i).is) ∙ sym (ap (λ (o : Option Use). cycle_is o (cycles_of (uses h))) found)
 
 offset-requires : tie.Need-offset-requires invariant-loop-j decreases-loop-j
-offset-requires c κs = let i = c.before.before in ((start i.before).pre.0, (here i).inside)
+offset-requires c κs = let i = c.before.before in ((start i.before).requires.0, (here i).inside)
 
 duration-requires : tie.Need-duration-requires invariant-loop-j decreases-loop-j
-duration-requires c κs = let i = c.before.before.before in ((start i.before).pre.0, (here i).inside)
+duration-requires c κs = let i = c.before.before.before in ((start i.before).requires.0, (here i).inside)
 
 abbrev turn : tie.After-duration invariant-loop-j decreases-loop-j → tie.In-loop-j invariant-loop-j decreases-loop-j
 turn c = c.before.before.before.before
 
 -- the end of use j
 end_is : (c : tie.After-duration invariant-loop-j decreases-loop-j)
-    → let u = now-use (turn c).before in c.before.offset.result + c.duration.result ≡ u.offset + u.duration
+    → let u = now-use (turn c).before in c.offset.result + c.duration.result ≡ u.offset + u.duration
 end_is c =
     let e = (here (turn c)).is in
-    ap₂ (λ (x y : ℕ). x + y) (c.before.offset.ensures ∙ ap (λ (u : Use). u.offset) e) (c.duration.ensures ∙ ap (λ (u : Use). u.duration) e)
+    ap₂ (λ (x y : ℕ). x + y) (c.offset.ensures ∙ ap (λ (u : Use). u.offset) e) (c.duration.ensures ∙ ap (λ (u : Use). u.duration) e)
 
 overflow_add-end : tie.Need-overflow_add-end invariant-loop-j decreases-loop-j
 overflow_add-end c =
     let i = turn c in
     let s = start i.before in
-    omega (arith, end_is c, (((accepted_ok s.args.file.now s.pre.0).op_ok s.args.op s.pre.1).each i.before.loop-j.j (inside i)).ends)
+    omega (arith, end_is c, (((accepted_ok s.args.file.now s.requires.0).op_ok s.args.op s.requires.1).each i.loop-j.j (inside i)).ends)
 
 overflow_add-j : tie.Need-overflow_add-j invariant-loop-j decreases-loop-j
 overflow_add-j c = omega arith
@@ -119,16 +119,16 @@ loop-j-preserved c =
     let h = i.before in
     let e = cycles_more (uses h) h.loop-j.j (inside i) in (
       omega arith,
-      rw add-one (⊎_elim (λ w. omega (arith, end_is d, e)) (λ w. omega (arith, end_is d, e)) c.if-most-end.branch),
-      below_more _ h.loop-j.j h.loop-j.inv.2 (sym (told d.before.before.before) ∙ d.before.before.if-taken.false),
+      rw add-one (⊎_elim (λ w. omega (arith, end_is d, e)) (λ w. omega (arith, end_is d, e)) c.if-most-end.branch-raw),
+      below_more _ h.loop-j.j h.loop-j.invariant.2 (sym (told d.before.before.before) ∙ d.if-taken.false),
     )
 
 returns : tie.Need-returns invariant-loop-j decreases-loop-j
 unfolding met_in
 returns c =
     let h = c.before in
-    let None-found = first_not (test h) (uses h) no_use (λ i l. h.loop-j.invariant.2 i (omega (arith, h.before.use_count-n.ensures))) in
-    let all = take_all h.loop-j.j (uses h) (omega (arith, h.before.use_count-n.ensures)) in
+    let None-found = first_not (test h) (uses h) no_use (λ i l. h.loop-j.invariant.2 i (omega (arith, h.use_count-n.ensures))) in
+    let all = take_all h.loop-j.j (uses h) (omega (arith, h.use_count-n.ensures)) in
     ap cycle.Free (h.loop-j.invariant.1 ∙ ap cycles_of all) ∙ sym (ap (λ (o : Option Use). cycle_is o (cycles_of (uses h))) None-found)
 
 pub taken_in_spec : {M : Type 1} → statement M

@@ -44,16 +44,16 @@ entry c = start (sweeping c.before).before
 -- what is then known
 come : (c : tie.After-write_list) → let a = (entry c).args in
     let s = sweeping c.before in
-    Come a.file.now a.n a.resource a.recurrence s.before.larger.result a.cap a.horizon a.budget a.list-1.now a.rows-1.now s.sweep-swept.last.1.0 c.write_list.new.0 s.sweep-swept.last.1.1.0
+    Come a.file.now a.n a.resource a.recurrence s.larger.result a.cap a.horizon a.budget a.list.now a.rows.now s.sweep-swept.last.1.0 c.write-list.new.0 s.sweep-swept.last.1.1.0
     s.sweep-swept.result
 come c =
     let s = sweeping c.before in
     record {
       swept_is = s.sweep-swept.ensures.0;
       within = s.sweep-swept.ensures.1.1;
-      least_is = s.before.larger.ensures;
+      least_is = s.larger.ensures;
       wide = omega arith;
-      list_is = rw c.before.kept.ensures at c.write_list.ensures;
+      list_is = rw c.before.kept.ensures at c.write-list.ensures;
       rows_are = s.sweep-swept.ensures.1.0 ∙ (clearing s.before).clear_rows.ensures;
     }
 
@@ -62,30 +62,30 @@ enum_known-swept c = omega arith
 
 -- the write, from where the answer has a list, where it has none, and where the budget is spent
 abbrev found_at : tie.In-Found-2 → tie.After-write_list
-found_at c = c.before.before.before.before
+found_at c = c.before.before.before
 
 abbrev none_at : tie.In-Nothing-2 → tie.After-write_list
-none_at c = c.before.before.before.before
+none_at c = c.before.before.before
 
 abbrev spent-at : tie.In-Spent-2 → tie.After-write_list
-spent-at c = c.before.before.before.before
+spent-at c = c.before.before.before
 
 stage_count-requires : tie.Need-stage_count-requires
-stage_count-requires c κs = (entry (found_at c.before.before.before.before)).requires.accepted
+stage_count-requires c κs = (entry (found_at c.before.before)).requires.accepted
 
 overflow_sub-result : tie.Need-overflow_sub-result
 overflow_sub-result c =
-    let m = c.before.before.before.before.before in
+    let m = c.before.before.before in
     let w = found_at m in
-    omega (arith, left_within (entry w).pre (come w) _ m.swept-1.given.1)
+    omega (arith, left_within (entry w).requires (come w) _ m.swept.given.1)
 
 enum_known-swept-in-Nothing-1 : tie.Need-enum_known-swept-in-Nothing-1
 enum_known-swept-in-Nothing-1 c = omega arith
 
 overflow_sub-result-in-Nothing : tie.Need-overflow_sub-result-in-Nothing
 overflow_sub-result-in-Nothing c =
-    let w = none_at c.before in
-    left_within (entry w).pre (come w) _ c.before.swept-in-Nothing-1.given.1
+    let w = none_at c in
+    left_within (entry w).requires (come w) _ c.in-Nothing.is
 
 enum_known-swept-in-Spent-1 : tie.Need-enum_known-swept-in-Spent-1
 enum_known-swept-in-Spent-1 c = omega arith
@@ -98,9 +98,9 @@ shape_of-rows-in-Found c = omega arith
 
 returns-in-Found : tie.Need-returns-in-Found
 returns-in-Found c =
-    let m = c.before.before.before.before.before in
+    let m = c.before.before.before in
     let w = found_at m in
-    finds (entry w).pre (come w) _ _ _ m.swept-1.given.1 c.stage_count.ensures
+    finds (entry w).requires (come w) _ _ _ m.swept.given.1 c.stage_count.ensures
 
 shape_of-list-in-Nothing : tie.Need-shape_of-list-in-Nothing
 shape_of-list-in-Nothing c = omega arith
@@ -110,8 +110,8 @@ shape_of-rows-in-Nothing c = omega arith
 
 returns-in-Nothing : tie.Need-returns-in-Nothing
 returns-in-Nothing c =
-    let w = none_at c.before in
-    ends (entry w).pre (come w) _ c.before.swept-in-Nothing-1.given.1
+    let w = none_at c in
+    ends (entry w).requires (come w) _ c.in-Nothing.is
 
 shape_of-list-in-Spent : tie.Need-shape_of-list-in-Spent
 shape_of-list-in-Spent c = omega arith
@@ -121,8 +121,8 @@ shape_of-rows-in-Spent c = omega arith
 
 returns-in-Spent : tie.Need-returns-in-Spent
 returns-in-Spent c =
-    let w = spent-at c.before in
-    stops (entry w).pre (come w) _ c.before.swept-in-Spent-1.given.1
+    let w = spent-at c in
+    stops (entry w).requires (come w) _ c.in-Spent.is
 
 pub attempt_spec : {M : Type 1} → statement M
 attempt_spec =

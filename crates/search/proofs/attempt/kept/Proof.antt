@@ -20,13 +20,13 @@ enum_told-in-Spent : tie.Need-enum_told-in-Spent
 enum_told-in-Spent c = search rules
 
 returns-in-Found : tie.Need-returns-in-Found
-returns-in-Found c = told c.before.before _ c.enum_told-1.given.1
+returns-in-Found c = told c.before _ c.in-Found.is
 
 returns-in-Nothing : tie.Need-returns-in-Nothing
-returns-in-Nothing c = told c.before.before _ c.enum_told-in-Nothing-1.given.1
+returns-in-Nothing c = told c.before _ c.in-Nothing.is
 
 returns-in-Spent : tie.Need-returns-in-Spent
-returns-in-Spent c = told c.before.before _ c.enum_told-in-Spent-1.given.1
+returns-in-Spent c = told c.before _ c.in-Spent.is
 
 pub kept_spec : {M : Type 1} → statement M
 kept_spec = tie.close (tie.spec enum_told-1 enum_told-in-Nothing enum_told-in-Spent returns-in-Found returns-in-Nothing returns-in-Spent)

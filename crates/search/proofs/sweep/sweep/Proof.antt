@@ -9,7 +9,7 @@ use Rattle.search.proofs.sweep.sweep.Statement.{statement}
 use Rattle.search.proofs.sweep.sweep.Tie as tie
 use Rattle.search.proofs.sweep.sweep.Reads as reads
 use Rattle.search.proofs.sweep.sweep.Lts as lts
-use Rattle.descent.proofs.choose-f.Reads as choose-reads
+use Rattle.descent.proofs.choose.Reads as choose-reads
 
 abbrev invariant-loop-ii : tie.invariant-loop-ii
 invariant-loop-ii file starts₀ rows₀ n least cap horizon budget left₀ ii₀ starts rows left ii = Pass file starts₀ rows₀ n least cap horizon budget starts rows left ii
@@ -18,58 +18,58 @@ abbrev decreases-loop-ii : tie.decreases-loop-ii
 decreases-loop-ii file starts₀ rows₀ n least cap horizon budget left₀ ii₀ starts rows left ii = suc cap - ii
 
 loop-ii-init : tie.Need-loop-ii-init invariant-loop-ii decreases-loop-ii
-loop-ii-init c = begins c.before.before.requires
+loop-ii-init c = begins c.requires
 
 choose-f-requires : tie.Need-choose-f-requires invariant-loop-ii decreases-loop-ii
-choose-f-requires c κs = ready c.before.before.before.before.before.before.requires c.before.before.before.loop-ii.invariant c.before.before.loop-ii-test.true
+choose-f-requires c κs = ready c.requires c.loop-ii.invariant c.loop-ii-test.true
 
 -- the entry, from after the call
 abbrev entry : lts.After-choose (choose-reads.Asked, choose-reads.Learnt) reads.Pre reads.Post invariant-loop-ii decreases-loop-ii → lts.Start (choose-reads.Asked, choose-reads.Learnt) reads.Pre reads.Post invariant-loop-ii decreases-loop-ii
 entry w = w.before.before.before.before.before.before.before
 
 -- after the call the rows are as they were
-rows_kept : (w : lts.After-choose (choose-reads.Asked, choose-reads.Learnt) reads.Pre reads.Post invariant-loop-ii decreases-loop-ii) → w.choose-f.new.1.1.0 ≡ (entry w).args.rows-1.now
-rows_kept w = w.choose-f.ensures.1 ∙ w.before.before.before.before.loop-ii.invariant.rows_same
+rows_kept : (w : lts.After-choose (choose-reads.Asked, choose-reads.Learnt) reads.Pre reads.Post invariant-loop-ii decreases-loop-ii) → w.choose.new.1.1.0 ≡ (entry w).args.rows.now
+rows_kept w = w.choose.ensures.1 ∙ w.before.before.before.before.loop.invariant.rows_same
 
 enum_known-f : tie.Need-enum_known-f invariant-loop-ii decreases-loop-ii
-enum_known-f c = c.match.keys1
+enum_known-f c = c.in-All-1.keys1
 
 shape_of-rows-in-All : tie.Need-shape_of-rows-in-All invariant-loop-ii decreases-loop-ii
-shape_of-rows-in-All c = ap (λ (l : List ℕ). length l) (rows_kept c.before.before.before.before.before)
+shape_of-rows-in-All c = ap (λ (l : List ℕ). length l) (rows_kept c.before.before.before)
 
 returns-in-All : tie.Need-returns-in-All invariant-loop-ii decreases-loop-ii
-returns-in-All c = let w = c.before.before.before.before.before in
-    let g = finds (entry w).requires w.before.before.before.before.loop-ii.invariant w.before.before.before.loop-ii-test.true w.choose-f.ensures.0 _ c.before.f-1.given.1 in
+returns-in-All c = let w = c.before.before.before in
+    let g = finds (entry w).requires w.loop-ii.invariant w.loop-ii-test.true w.choose-f.ensures.0 _ c.in-All.is in
     (g.0, (rows_kept w, g.1))
 
 enum_told-1 : tie.Need-enum_told-1 invariant-loop-ii decreases-loop-ii
-enum_told-1 c = c.match.keys2
+enum_told-1 c = c.in-Spent-1.keys2
 
 shape_of-rows-in-Spent : tie.Need-shape_of-rows-in-Spent invariant-loop-ii decreases-loop-ii
-shape_of-rows-in-Spent c = ap (λ (l : List ℕ). length l) (rows_kept c.before.before.before.before)
+shape_of-rows-in-Spent c = ap (λ (l : List ℕ). length l) (rows_kept c.before.before.before)
 
 returns-in-Spent : tie.Need-returns-in-Spent invariant-loop-ii decreases-loop-ii
-returns-in-Spent c = let w = c.before.before.before.before in
-    (stops (entry w).requires w.before.before.before.before.loop-ii.invariant w.before.before.before.loop-ii-test.true w.choose-f.ensures.0 c.enum_told-1.given.1, (rows_kept w, tt))
+returns-in-Spent c = let w = c.before.before.before in
+    (stops (entry w).requires w.loop-ii.invariant w.loop-ii-test.true w.choose-f.ensures.0 c.in-Spent.is, (rows_kept w, tt))
 
 enum_known-f-in-Nothing-1 : tie.Need-enum_known-f-in-Nothing-1 invariant-loop-ii decreases-loop-ii
-enum_known-f-in-Nothing-1 c = c.match.keys3
+enum_known-f-in-Nothing-1 c = c.in-Nothing-1.keys3
 
 overflow_add-ii : tie.Need-overflow_add-ii invariant-loop-ii decreases-loop-ii
-overflow_add-ii c = let w = c.before.before.before.before.before in omega (arith, w.before.before.before.loop-ii-test.true, (entry w).requires.capped)
+overflow_add-ii c = let w = c.before.before.before in omega (arith, w.loop-ii-test.true, (entry w).requires.capped)
 
 loop-ii-smaller : tie.Need-loop-ii-smaller invariant-loop-ii decreases-loop-ii
-loop-ii-smaller c = let w = c.before.before.before.before.before in omega (arith, w.before.before.before.loop-ii-test.true)
+loop-ii-smaller c = let w = c.before.before.before in omega (arith, w.loop-ii-test.true)
 
 loop-ii-preserved : tie.Need-loop-ii-preserved invariant-loop-ii decreases-loop-ii
-loop-ii-preserved c = let w = c.before.before.before.before.before in
-    goes_on (entry w).requires w.before.before.before.before.loop-ii.invariant w.before.before.before.loop-ii-test.true w.choose-f.ensures.0 _ w.choose-f.ensures.1 c.before.f-in-Nothing-1.given.1
+loop-ii-preserved c = let w = c.before.before.before in
+    goes_on (entry w).requires w.loop-ii.invariant w.loop-ii-test.true w.choose-f.ensures.0 _ w.choose-f.ensures.1 c.in-Nothing.is
 
 shape_of-rows : tie.Need-shape_of-rows invariant-loop-ii decreases-loop-ii
-shape_of-rows c = ap (λ (l : List ℕ). length l) c.before.loop-ii.invariant.rows_same
+shape_of-rows c = ap (λ (l : List ℕ). length l) c.loop-ii.invariant.rows_same
 
 returns : tie.Need-returns invariant-loop-ii decreases-loop-ii
-returns c = (ends c.before.before.before.before.requires c.before.loop-ii.invariant c.loop-ii-test.false, (c.before.loop-ii.invariant.rows_same, c.before.loop-ii.invariant.paid))
+returns c = (ends c.requires c.loop-ii.invariant c.loop-ii-test.false, (c.loop-ii.invariant.rows_same, c.loop-ii.invariant.paid))
 
 pub sweep_spec : {M : Type 1} → statement M
 sweep_spec =

@@ -49,7 +49,7 @@ wrapping_add_usize-requires-2 : tie.Need-wrapping_add_usize-requires-2 invariant
 wrapping_add_usize-requires-2 c κs = tt
 
 nonzero_div-result : tie.Need-nonzero_div-result invariant-loop-op decreases-loop-op
-nonzero_div-result c = omega (arith, c.before.before.larger-ii.ensures)
+nonzero_div-result c = omega (arith, c.larger-ii.ensures)
 
 returns : tie.Need-returns invariant-loop-op decreases-loop-op
 returns c = tt

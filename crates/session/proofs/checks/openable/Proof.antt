@@ -36,20 +36,20 @@ unread-requires c κs = omega arith
 returns-in_default : tie.Need-returns-in_default
 unfolding open_checks
 returns-in_default c =
-    let r = c.before.before.before in
+    let r = c.before.before in
     let s = r.before.before in
-    ap refusal_of c.unread.ensures ∙ unread_first s.args.file.now (byInterval s) r.read-reading.ensures c.before.enum_told-in_default-1.given.1
+    ap refusal_of c.unread.ensures ∙ unread_first s.args.file.now (byInterval s) r.read-reading.ensures c.in_default.is
 
 -- ---- once the file is accepted
 
 abbrev start : tie.In-Accepted → tie.Start
-start c = c.before.before.before.before
+start c = c.before.before.before
 
 accepted_decides : (c : tie.In-Accepted) → let a = (start c).args in first_refusal (open_checks a.file.now a.interval a.horizon a.rows) ≡ first_refusal (byInterval (start c))
 unfolding open_checks
 accepted_decides c =
     let f = (start c).args.file.now in
-    refusal_append (file_checks f) (byInterval (start c)) (read_accepted f _ _ _ (sym (ap reading_of c.enum_told-1.given.1) ∙ c.before.before.read-reading.ensures)).file
+    refusal_append (file_checks f) (byInterval (start c)) (read_accepted f _ _ _ (sym (ap reading_of c.enum_told.given.1) ∙ c.before.before.read.ensures)).file
 
 range-by_interval-requires : tie.Need-range-by_interval-requires
 range-by_interval-requires c κs = omega arith
@@ -62,9 +62,9 @@ enum_told-in_default-by_interval c = omega arith
 
 returns-in_default-by_interval : tie.Need-returns-in_default-by_interval
 returns-in_default-by_interval c =
-    let r = c.before.before in
+    let r = c.before in
     let s = start r.before in
-    refused_first (range 1 4096 s.args.interval ∷ []) (byHorizon s) r.range-by_interval.ensures c.enum_told-in_default-by_interval-1.given.1 ∙ sym (accepted_decides r.before)
+    refused_first (range 1 4096 s.args.interval ∷ []) (byHorizon s) r.range-by_interval.ensures c.in_default-by_interval.is ∙ sym (accepted_decides r.before)
 
 -- ---- once the interval passes
 
@@ -73,7 +73,7 @@ interval_decides : (c : tie.In-Fine) → let s = start c.before.before.before in
 interval_decides c =
     let r = c.before.before in
     let s = start r.before in
-    accepted_decides r.before ∙ rest_decides (range 1 4096 s.args.interval ∷ []) (byHorizon s) r.range-by_interval.ensures c.enum_told-in-Fine-1.given.1
+    accepted_decides r.before ∙ rest_decides (range 1 4096 s.args.interval ∷ []) (byHorizon s) r.range.ensures c.enum-told3.given.1
 
 range-by_horizon-requires : tie.Need-range-by_horizon-requires
 range-by_horizon-requires c κs = omega arith
@@ -86,9 +86,9 @@ enum_told-in_default-by_horizon c = omega arith
 
 returns-in_default-by_horizon : tie.Need-returns-in_default-by_horizon
 returns-in_default-by_horizon c =
-    let r = c.before.before in
-    let a = (start r.before.before.before.before).args in
-    refused_first (range 2 4096 a.horizon ∷ []) (lent a.interval a.rows ∷ []) r.range-by_horizon.ensures c.enum_told-in_default-by_horizon-1.given.1 ∙ sym (interval_decides r.before)
+    let r = c.before in
+    let a = (start r.before.before.before).args in
+    refused_first (range 2 4096 a.horizon ∷ []) (lent a.interval a.rows ∷ []) r.range-by_horizon.ensures c.in_default-by_horizon.is ∙ sym (interval_decides r.before)
 
 lent-requires : tie.Need-lent-requires
 lent-requires c κs = omega arith
@@ -96,9 +96,9 @@ lent-requires c κs = omega arith
 returns : tie.Need-returns
 returns c =
     let t = c.before in
-    let r = t.before.before in
-    let a = (start r.before.before.before.before).args in
-    c.lent.ensures ∙ sym (interval_decides r.before ∙ rest_decides (range 2 4096 a.horizon ∷ []) (lent a.interval a.rows ∷ []) r.range-by_horizon.ensures t.enum_told-in-Fine-by_horizon-1.given.1)
+    let r = t.before in
+    let a = (start r.before.before.before).args in
+    c.lent.ensures ∙ sym (interval_decides r.before ∙ rest_decides (range 2 4096 a.horizon ∷ []) (lent a.interval a.rows ∷ []) r.range-by_horizon.ensures t.in-Fine-by_horizon.is)
 
 pub openable_spec : {M : Type 1} → statement M
 openable_spec =

@@ -35,8 +35,8 @@ loop-i-smaller c = omega arith
 loop-i-preserved : tie.Need-loop-i-preserved invariant-loop-i decreases-loop-i
 loop-i-preserved c =
     let g = c.before.before in
-    let f = g.before.args.file.now in
-    let old = g.before.args.store.now in
+    let f = g.args.file.now in
+    let old = g.args.store.now in
     let j = g.loop-i.i in
     let a = get_or f j 0 in
     let l : j < length f = omega arith in (
@@ -49,9 +49,9 @@ loop-i-preserved c =
 
 returns : tie.Need-returns invariant-loop-i decreases-loop-i
 returns c =
-    let a = c.before.before.args in
-    let done : c.before.loop-i.i ≡ length a.file.now = omega arith in
-    c.before.loop-i.invariant.1
+    let a = c.args in
+    let done : c.loop-i.i ≡ length a.file.now = omega arith in
+    c.loop-i.invariant.1
     ∙ ap (λ (k : ℕ). take k a.file.now ++ drop k a.store.now) done
     ∙ ap (λ (l : List ℕ). l ++ drop (length a.file.now) a.store.now) (take-length a.file.now)
 

@@ -23,14 +23,14 @@ loop-y-smaller : tie.Need-loop-y-smaller invariant-loop-y decreases-loop-y
 loop-y-smaller c = mod-lt _ (omega arith)
 
 loop-y-preserved : tie.Need-loop-y-preserved invariant-loop-y decreases-loop-y
-loop-y-preserved c = common_next (omega arith) c.before.loop-y.invariant
+loop-y-preserved c = common_next (omega arith) c.loop-y.invariant
 
 returns : tie.Need-returns invariant-loop-y decreases-loop-y
 returns c =
-    let a = c.before.before.args in
-    let l = c.before.loop-y in
+    let a = c.args in
+    let l = c.loop-y in
     let z : l.y ≡ 0 = omega arith in
-    let e : l.x ≡ gcd_of a.a a.b = common_end a.a a.b l.x c.before.before.requires (subst (Common a.a a.b l.x) z l.invariant) in
+    let e : l.x ≡ gcd_of a.a a.b = common_end a.a a.b l.x c.requires (subst (Common a.a a.b l.x) z l.invariant) in
     (e, omega arith)
 
 pub gcd_spec : {M : Type 1} → statement M

@@ -6,7 +6,7 @@ use Rattle.sheet.proofs.fraction.lowest.Statement.{statement}
 use Rattle.sheet.proofs.fraction.lowest.Tie as tie
 
 returns-then-cells-lt1 : tie.Need-returns-then-cells-lt1
-returns-then-cells-lt1 c = lowest_none c.before.args.used _ c.if-cells-lt1.true
+returns-then-cells-lt1 c = lowest_none c.args.used _ c.if-cells-lt1.true
 
 gcd-g-requires : tie.Need-gcd-g-requires
 gcd-g-requires c κs = search rules
@@ -19,7 +19,7 @@ nonzero_div-result-2 c = search rules
 
 returns : tie.Need-returns
 returns c =
-    let a = c.before.before.args in
+    let a = c.args in
     lowest_some a.used a.cells _ (omega arith) c.gcd-g.ensures.0
 
 pub lowest_spec : {M : Type 1} → statement M

@@ -55,12 +55,12 @@ loop-k-smaller c = omega arith
 
 loop-k-preserved : tie.Need-loop-k-preserved invariant-loop-k decreases-loop-k
 loop-k-preserved c =
-    let l = c.before.before.before.loop-k in
-    (omega arith, slots_more c.before.before.before.before.args.t1 l.k c.lowest-f.result _ l.slots l.invariant.1 c.lowest-f.ensures)
+    let l = c.loop-k in
+    (omega arith, slots_more c.args.t1 l.k c.lowest-f.result _ l.slots l.invariant.1 c.lowest-f.ensures)
 
 returns : tie.Need-returns invariant-loop-k decreases-loop-k
 returns c =
-    let l = c.before.loop-k in
+    let l = c.loop-k in
     let e : l.k ≡ 24 = omega arith in
     rw e at l.invariant.1
 

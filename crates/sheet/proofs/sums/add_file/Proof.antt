@@ -24,9 +24,9 @@ entry c = c.before.before.before.before.before
 
 with_schedule-requires : tie.Need-with_schedule-requires
 with_schedule-requires c κs =
-    let w = searching c.before.before.before in
-    let a = found_accepted _ _ _ _ _ _ refl w.search-answer.ensures c.before.answer-1.given.0.0 c.before.answer-1.given.1 in
-    (a.0, (entry w).pre, a.1)
+    let w = searching c.before in
+    let a = found_accepted _ _ _ _ _ _ refl w.search-answer.ensures c.in-Found.s c.in-Found.is in
+    (a.0, (entry w).requires, a.1)
 
 enum_told-1 : tie.Need-enum_told-1
 enum_told-1 c = search rules
@@ -39,20 +39,20 @@ shape_of-rows-in-Found c = search rules
 
 returns-in-Found : tie.Need-returns-in-Found
 returns-in-Found c =
-    let w = searching c.before.before.before.before in
-    adds_found _ _ _ _ _ _ refl w.search-answer.ensures _ c.before.before.answer-1.given.1 _ _ c.with_schedule.ensures
+    let w = searching c.before.before in
+    adds_found _ _ _ _ _ _ refl w.search-answer.ensures _ c.in-Found.is _ _ c.with_schedule.ensures
 
 shape_of-rows-in-Ended : tie.Need-shape_of-rows-in-Ended
 shape_of-rows-in-Ended c = search rules
 
 returns-in-Ended : tie.Need-returns-in-Ended
-returns-in-Ended c = adds_ended _ _ _ _ _ _ refl (searching c.before.before).search-answer.ensures c.enum_told-1.given.1 _
+returns-in-Ended c = adds_ended _ _ _ _ _ _ refl (searching c.before).search-answer.ensures c.in-Ended.is _
 
 shape_of-rows-in-Refused : tie.Need-shape_of-rows-in-Refused
 shape_of-rows-in-Refused c = search rules
 
 returns-in-Refused : tie.Need-returns-in-Refused
-returns-in-Refused c = adds_refused _ _ _ _ _ _ refl (searching c.before.before).search-answer.ensures c.enum_told-in-Refused-1.given.1 _
+returns-in-Refused c = adds_refused _ _ _ _ _ _ refl (searching c.before).search-answer.ensures c.in-Refused.is _
 
 pub add_file_spec : {M : Type 1} → statement M
 add_file_spec =

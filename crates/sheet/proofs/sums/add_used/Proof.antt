@@ -28,7 +28,7 @@ overflow_add-k : tie.Need-overflow_add-k invariant-loop-k decreases-loop-k
 overflow_add-k c = omega arith
 
 total_on-requires : tie.Need-total_on-requires invariant-loop-k decreases-loop-k
-total_on-requires c κs = c.before.before.before.before.requires.0
+total_on-requires c κs = c.requires.0
 
 -- the entry, as a turn sees it
 abbrev entry : tie.In-loop-k invariant-loop-k decreases-loop-k → tie.Start invariant-loop-k decreases-loop-k
@@ -37,8 +37,8 @@ entry c = c.before.before.before
 overflow_add-used : tie.Need-overflow_add-used invariant-loop-k decreases-loop-k
 overflow_add-used c =
     let s = entry c.before.before in
-    let l = c.before.before.before.loop-k in
-    omega (arith, l.invariant.1.left l.k (omega arith), s.pre.1.low l.k (omega arith), c.total_on.ensures, total_few s.args.file.now s.pre.0 (l.k + 1))
+    let l = c.loop-k in
+    omega (arith, l.invariant.1.left l.k (omega arith), s.requires.1.low l.k (omega arith), c.total_on.ensures, total_few s.args.file.now s.requires.0 (l.k + 1))
 
 offset_bounds-used-k-in-loop-k : tie.Need-offset_bounds-used-k-in-loop-k invariant-loop-k decreases-loop-k
 offset_bounds-used-k-in-loop-k c = omega arith
@@ -55,15 +55,15 @@ loop-k-smaller c = omega arith
 loop-k-preserved : tie.Need-loop-k-preserved invariant-loop-k decreases-loop-k
 loop-k-preserved c =
     let s = entry c.before.before in
-    let l = c.before.before.before.loop-k in
+    let l = c.loop-k in
     let g : ℕ → ℕ = total_on (loop_of s.args.file.now) in (
       omega arith,
-      raised_next g l.k s.args.used-1.now l.used-1 _ (omega (arith, s.pre.1.long)) l.invariant.1 (omega (arith, c.total_on.ensures, ap g (add-one l.k))),
+      raised_next g l.k s.args.used.now l.used _ (omega (arith, s.requires.1.long)) l.invariant.1 (omega (arith, c.total_on.ensures, ap g (add-one l.k))),
     )
 
 returns : tie.Need-returns invariant-loop-k decreases-loop-k
 returns c =
-    let l = c.before.loop-k in
+    let l = c.loop-k in
     let e : l.k ≡ 24 = omega arith in
     raised_all _ _ _ (rw e at l.invariant.1)
 

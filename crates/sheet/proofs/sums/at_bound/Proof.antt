@@ -9,10 +9,10 @@ larger-requires : tie.Need-larger-requires
 larger-requires c κs = search rules
 
 returns-then-s-larger : tie.Need-returns-then-s-larger
-returns-then-s-larger c = rw (eq-eqb _ _ (c.if-s-larger.true ∙ c.before.before.larger.ensures))
+returns-then-s-larger c = rw (eq-eqb _ _ (c.if-s-larger.true ∙ c.larger.ensures))
 
 returns : tie.Need-returns
-returns c = rw (ne_eqb _ _ (λ e. c.if-s-larger.false (e ∙ sym c.before.before.larger.ensures)))
+returns c = rw (ne_eqb _ _ (λ e. c.if-s-larger.false (e ∙ sym c.larger.ensures)))
 
 pub at_bound_spec : {M : Type 1} → statement M
 at_bound_spec = tie.close (tie.spec larger-requires returns-then-s-larger returns)

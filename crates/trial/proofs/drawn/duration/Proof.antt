@@ -18,11 +18,11 @@ wide-requires c κs = tt
 
 returns-then-slot-lt3 : tie.Need-returns-then-slot-lt3
 unfolding duration_of
-returns-then-slot-lt3 c = rw (lt-ltb _ _ c.before.before.before.if-op-lt6.true, lt-ltb _ _ c.before.before.if-slot-lt3.true) c.wide.ensures.0
+returns-then-slot-lt3 c = rw (lt-ltb _ _ c.if-op-lt6.true, lt-ltb _ _ c.if-slot-lt3.true) c.wide.ensures.0
 
 returns-else-slot-lt3 : tie.Need-returns-else-slot-lt3
 unfolding duration_of
-returns-else-slot-lt3 c = rw (lt-ltb _ _ c.before.if-op-lt6.true, le-ltb _ _ c.if-slot-lt3.false)
+returns-else-slot-lt3 c = rw (lt-ltb _ _ c.if-op-lt6.true, le-ltb _ _ c.if-slot-lt3.false)
 
 returns-else-op-lt6 : tie.Need-returns-else-op-lt6
 unfolding duration_of

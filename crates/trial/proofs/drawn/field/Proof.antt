@@ -18,11 +18,11 @@ wide-requires c κs = tt
 
 returns-then-which-lt4 : tie.Need-returns-then-which-lt4
 unfolding field_of
-returns-then-which-lt4 c = (rw (lt-ltb _ _ c.before.before.before.if-e-lt6.true, lt-ltb _ _ c.before.before.if-which-lt4.true) c.wide.ensures.0, omega arith)
+returns-then-which-lt4 c = (rw (lt-ltb _ _ c.if-e-lt6.true, lt-ltb _ _ c.if-which-lt4.true) c.wide.ensures.0, omega arith)
 
 returns-else-which-lt4 : tie.Need-returns-else-which-lt4
 unfolding field_of
-returns-else-which-lt4 c = (rw (lt-ltb _ _ c.before.if-e-lt6.true, le-ltb _ _ c.if-which-lt4.false), omega arith)
+returns-else-which-lt4 c = (rw (lt-ltb _ _ c.if-e-lt6.true, le-ltb _ _ c.if-which-lt4.false), omega arith)
 
 returns-else-e-lt6 : tie.Need-returns-else-e-lt6
 unfolding field_of

@@ -21,7 +21,7 @@ unfolding holds_at holds_in
 returns-then-s-t c =
     let u = c.before in
     let v = u.before.before in
-    rw (← v.before.field.ensures.0, ← v.start_of_lem.ensures, ← u.before.field-2.ensures.0, ← u.start_of-t.ensures, c.if-s-t.true)
+    rw (← v.field.ensures.0, ← v.start_of-s.ensures, ← u.field-2.ensures.0, ← u.start_of-t.ensures, c.if-s-t.true)
 
 overflow_cast-due : tie.Need-overflow_cast-due
 overflow_cast-due c = omega arith
@@ -54,13 +54,13 @@ returns c =
     let u = w.before.before in
     let v = u.before.before in
     rw (
-      ← v.before.field.ensures.0,
-      ← v.start_of_lem.ensures,
-      ← u.before.field-2.ensures.0,
+      ← v.field.ensures.0,
+      ← v.start_of-s.ensures,
+      ← u.field-2.ensures.0,
       ← u.start_of-t.ensures,
-      w.before.if-s-t.false,
+      w.if-s-t.false,
       ← w.field-3.ensures.0,
-      ← c.before.field-4.ensures.0,
+      ← c.field-4.ensures.0,
       ← c.lag.ensures.0,
     )
 

@@ -12,7 +12,7 @@ wide-requires c κs = tt
 
 returns-then-op-lt6 : tie.Need-returns-then-op-lt6
 unfolding latency_of
-returns-then-op-lt6 c = rw (lt-ltb _ _ c.before.before.if-op-lt6.true) c.wide.ensures.0
+returns-then-op-lt6 c = rw (lt-ltb _ _ c.if-op-lt6.true) c.wide.ensures.0
 
 returns-else-op-lt6 : tie.Need-returns-else-op-lt6
 unfolding latency_of

@@ -19,7 +19,7 @@ returns : tie.Need-returns
 unfolding only_of
 returns c =
     let u = c.before.before in
-    rw (← u.before.start_of_lem.ensures, ← c.before.start_of-2.ensures, ← u.with_start-alone.ensures) c.with_start.ensures
+    rw (← u.start_of.ensures, ← c.start_of-2.ensures, ← u.with_start-alone.ensures) c.with_start.ensures
 
 pub only_spec : {M : Type 1} → statement M
 only_spec =

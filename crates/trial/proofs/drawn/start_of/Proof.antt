@@ -12,7 +12,7 @@ bounds-starts-op c = omega arith
 
 returns-then-op-lt6 : tie.Need-returns-then-op-lt6
 unfolding start_of
-returns-then-op-lt6 c = rw (lt-ltb _ _ c.before.if-op-lt6.true)
+returns-then-op-lt6 c = rw (lt-ltb _ _ c.if-op-lt6.true)
 
 returns-else-op-lt6 : tie.Need-returns-else-op-lt6
 unfolding start_of

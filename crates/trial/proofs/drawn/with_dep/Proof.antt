@@ -53,7 +53,7 @@ returns-then-e-lt6 : tie.Need-returns-then-e-lt6
 unfolding with_dep dep_set
 returns-then-e-lt6 c =
     let w = c.before.before.before in
-    (rw (lt-ltb _ _ w.before.if-e-lt6.true, ← w.byte.ensures, ← c.before.before.byte-then-e-lt6.ensures, ← c.before.byte-then-e-lt6-2.ensures, ← c.byte-then-e-lt6-3.ensures), record { ops = refl; deps = refl; at_interval = refl; to_horizon = refl })
+    (rw (lt-ltb _ _ w.if-e-lt6.true, ← w.byte.ensures, ← c.byte-then-e-lt6.ensures, ← c.byte-then-e-lt6-2.ensures, ← c.byte-then-e-lt6-3.ensures), record { ops = refl; deps = refl; at_interval = refl; to_horizon = refl })
 
 returns-else-e-lt6 : tie.Need-returns-else-e-lt6
 unfolding with_dep dep_set

@@ -11,11 +11,11 @@ bounds-file-at c = omega arith
 
 returns-then-at-lt2000 : tie.Need-returns-then-at-lt2000
 returns-then-at-lt2000 c =
-    let a = c.before.before.args in
-    simp (lt-ltb a.at 2000 c.before.if-at-lt2000.true) (ap (λ (v : ℕ). set a.file.now a.at v) c.byte.ensures)
+    let a = c.args in
+    simp (lt-ltb a.at 2000 c.if-at-lt2000.true) (ap (λ (v : ℕ). set a.file.now a.at v) c.byte.ensures)
 
 returns-else-at-lt2000 : tie.Need-returns-else-at-lt2000
-returns-else-at-lt2000 c = simp (le-ltb c.before.args.at 2000 c.if-at-lt2000.false)
+returns-else-at-lt2000 c = simp (le-ltb c.args.at 2000 c.if-at-lt2000.false)
 
 pub put_spec : {M : Type 1} → statement M
 put_spec = tie.close (tie.spec byte-requires bounds-file-at returns-then-at-lt2000 returns-else-at-lt2000)

@@ -1,7 +1,7 @@
 -- `put_head` is safe and ends: its loop counts up, and the measure is what is left. Assumes nothing.
 use Rattle.std.proofs.Common.{◌-◌, arith}
-use Rattle.trial.proofs.file-1.put_head.Statement.{statement}
-use Rattle.trial.proofs.file-1.put_head.Tie as tie
+use Rattle.trial.proofs.file.put_head.Statement.{statement}
+use Rattle.trial.proofs.file.put_head.Tie as tie
 
 abbrev invariant-loop-i : tie.invariant-loop-i
 invariant-loop-i file₀ ops uses deps i₀ file i = Unit
@@ -12,7 +12,7 @@ decreases-loop-i file₀ ops uses deps i₀ file i = 26 - i
 loop-i-init : tie.Need-loop-i-init invariant-loop-i decreases-loop-i
 loop-i-init c = tt
 
-bounds-i : tie.Need-bounds-i invariant-loop-i decreases-loop-i
+bounds-i : tie.Need-array-read-file invariant-loop-i decreases-loop-i
 bounds-i c = omega arith
 
 bounds-file-i : tie.Need-bounds-file-i invariant-loop-i decreases-loop-i

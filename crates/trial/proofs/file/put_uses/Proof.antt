@@ -40,7 +40,7 @@ loop-i-smaller : tie.Need-loop-i-smaller invariant-loop-i decreases-loop-i
 loop-i-smaller c = omega arith
 
 loop-i-preserved : tie.Need-loop-i-preserved invariant-loop-i decreases-loop-i
-loop-i-preserved c = ⊎_elim (λ w. omega arith) (λ w. omega arith) c.if-cycles-gt0.branch
+loop-i-preserved c = ⊎_elim (λ w. omega arith) (λ w. omega arith) c.if-cycles-gt0.branch-raw
 
 returns : tie.Need-returns invariant-loop-i decreases-loop-i
 returns c = omega arith

@@ -25,10 +25,10 @@ loop-e-smaller c = omega arith
 
 loop-e-preserved : tie.Need-loop-e-preserved invariant-loop-e decreases-loop-e
 unfolding all_hold
-loop-e-preserved c = (omega arith, rw (add-one, ← c.before.before.before.loop-e.invariant.1, ← c.holds-held.ensures))
+loop-e-preserved c = (omega arith, rw (add-one, ← c.loop-e.invariant.1, ← c.holds-held.ensures))
 
 returns : tie.Need-returns invariant-loop-e decreases-loop-e
-returns c = c.before.before.loop-e.invariant.1 ∙ ap (all_hold _ _ _) (omega arith)
+returns c = c.loop-e.invariant.1 ∙ ap (all_hold _ _ _) (omega arith)
 
 pub all_hold_spec : {M : Type 1} → statement M
 all_hold_spec =

@@ -20,8 +20,8 @@ returns-then-legal : tie.Need-returns-then-legal invariant-loop-code decreases-l
 unfolding first_from
 returns-then-legal c =
     let l = c.before.before.before in
-    let more : l.before.args.count - l.loop-code.code ≡ suc (l.before.args.count - (l.loop-code.code + 1)) = omega arith in
-    rw (l.loop-code.invariant.1, more, ← c.before.legal.ensures, c.if-legal.true)
+    let more : l.args.count - l.loop-code.code ≡ suc (l.args.count - (l.loop-code.code + 1)) = omega arith in
+    rw (l.loop-code.invariant.1, more, ← c.legal.ensures, c.if-legal.true)
 
 overflow_add-code : tie.Need-overflow_add-code invariant-loop-code decreases-loop-code
 overflow_add-code c = omega arith
@@ -33,14 +33,14 @@ loop-code-preserved : tie.Need-loop-code-preserved invariant-loop-code decreases
 unfolding first_from
 loop-code-preserved c =
     let l = c.before.before.before in
-    let more : l.before.args.count - l.loop-code.code ≡ suc (l.before.args.count - (l.loop-code.code + 1)) = omega arith in
-    (omega arith, rw (l.loop-code.invariant.1, more, ← c.before.legal.ensures, c.if-legal.false, add-one))
+    let more : l.args.count - l.loop-code.code ≡ suc (l.args.count - (l.loop-code.code + 1)) = omega arith in
+    (omega arith, rw (l.loop-code.invariant.1, more, ← c.legal.ensures, c.if-legal.false, add-one))
 
 returns : tie.Need-returns invariant-loop-code decreases-loop-code
 unfolding first_from
 returns c =
     let l = c.before in
-    let done : l.before.args.count - l.loop-code.code ≡ 0 = omega arith in
+    let done : l.args.count - l.loop-code.code ≡ 0 = omega arith in
     sym (l.loop-code.invariant.1 ∙ ap (first_from _ _ _) done)
 
 pub first_legal_spec : {M : Type 1} → statement M

@@ -16,11 +16,11 @@ returns-then-all_hold : tie.Need-returns-then-all_hold
 unfolding fits_in
 returns-then-all_hold c =
     let w = c.before.before in
-    rw (← w.before.before.all_hold.ensures, w.before.if-all_hold.true, ← w.of_starts-painted.ensures, ← c.twice.ensures)
+    rw (← w.all_hold.ensures, w.if-all_hold.true, ← w.of_starts-painted.ensures, ← c.twice.ensures)
 
 returns : tie.Need-returns
 unfolding fits_in
-returns c = rw (← c.before.all_hold.ensures, c.if-all_hold.false)
+returns c = rw (← c.all_hold.ensures, c.if-all_hold.false)
 
 pub fits_spec : {M : Type 1} → statement M
 fits_spec =

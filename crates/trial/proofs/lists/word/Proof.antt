@@ -18,7 +18,7 @@ least-i-requires c κs = tt
 
 loop-i-init : tie.Need-loop-i-init invariant-loop-i decreases-loop-i
 unfolding word_of
-loop-i-init c = (omega arith, rw (← c.before.larger-h.ensures.0, ← c.least-i.ensures.0))
+loop-i-init c = (omega arith, rw (← c.larger-h.ensures.0, ← c.least-i.ensures.0))
 
 overflow_sub-i : tie.Need-overflow_sub-i invariant-loop-i decreases-loop-i
 overflow_sub-i c = omega arith
@@ -44,14 +44,14 @@ loop-i-smaller c = omega arith
 loop-i-preserved : tie.Need-loop-i-preserved invariant-loop-i decreases-loop-i
 unfolding digits
 loop-i-preserved c =
-    let l = c.before.loop-i in
+    let l = c.loop-i in
     let one_more : l.i ≡ suc (l.i - 1) = omega arith in
     (omega arith, l.invariant.1 ∙ ap (digits _ _ _) one_more)
 
 returns : tie.Need-returns invariant-loop-i decreases-loop-i
 unfolding digits
 returns c =
-    let l = c.before.loop-i in
+    let l = c.loop-i in
     let done : l.i ≡ 0 = omega arith in
     sym (l.invariant.1 ∙ ap (digits _ _ _) done)
 

@@ -29,7 +29,7 @@ loop-i-smaller c = omega arith
 loop-i-preserved : tie.Need-loop-i-preserved invariant-loop-i decreases-loop-i
 loop-i-preserved c =
     let g = c.before.before in
-    let a = g.before.args in
+    let a = g.args in
     let j = g.loop-i.i in (
       omega arith,
       ap (λ (l : List ℕ). set l j (get_or a.bytes.now j 0)) g.loop-i.invariant.1 ∙ put_next a.file.now a.bytes.now j (omega arith),
@@ -37,10 +37,10 @@ loop-i-preserved c =
 
 returns : tie.Need-returns invariant-loop-i decreases-loop-i
 returns c =
-    let a = c.before.before.args in
-    let done : c.before.loop-i.i ≡ length a.bytes.now = omega arith in (
+    let a = c.args in
+    let done : c.loop-i.i ≡ length a.bytes.now = omega arith in (
       done,
-      c.before.loop-i.invariant.1 ∙ ap (λ (n : ℕ). sets a.file.now 0 (take n a.bytes.now)) done ∙ ap (sets a.file.now 0) (take-length a.bytes.now),
+      c.loop-i.invariant.1 ∙ ap (λ (n : ℕ). sets a.file.now 0 (take n a.bytes.now)) done ∙ ap (sets a.file.now 0) (take-length a.bytes.now),
     )
 
 pub put_spec : {M : Type 1} → statement M

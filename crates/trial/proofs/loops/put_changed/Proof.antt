@@ -11,11 +11,11 @@ bounds-file-at c = omega arith
 
 returns-then-at-lt2000 : tie.Need-returns-then-at-lt2000
 returns-then-at-lt2000 c =
-    let a = c.before.before.before.args in
-    simp (lt-ltb a.at 2000 c.if-at-lt2000.true) (ap (λ (l : List ℕ). set l a.at a.byte) c.before.put_loop.ensures.1)
+    let a = c.args in
+    simp (lt-ltb a.at 2000 c.if-at-lt2000.true) (ap (λ (l : List ℕ). set l a.at a.byte) c.put_loop.ensures.1)
 
 returns-else-at-lt2000 : tie.Need-returns-else-at-lt2000
-returns-else-at-lt2000 c = simp (le-ltb c.before.before.before.args.at 2000 c.if-at-lt2000.false) c.before.put_loop.ensures.1
+returns-else-at-lt2000 c = simp (le-ltb c.args.at 2000 c.if-at-lt2000.false) c.put_loop.ensures.1
 
 pub put_changed_spec : {M : Type 1} → statement M
 put_changed_spec = tie.close (tie.spec put_loop-requires bounds-file-at returns-then-at-lt2000 returns-else-at-lt2000)

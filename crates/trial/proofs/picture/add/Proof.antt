@@ -27,9 +27,9 @@ returns c =
     let v = c.before.before.before in
     let u = v.before.before.before in
     rw (
-      ← u.before.duration.ensures,
-      ← v.before.duration-2.ensures,
-      ← c.before.duration-3.ensures,
+      ← u.duration.ensures,
+      ← v.duration-2.ensures,
+      ← c.duration-3.ensures,
       ← u.paint.ensures,
       ← v.paint-2.ensures,
     ) c.paint-3.ensures

@@ -17,11 +17,11 @@ returns-then-k-duration : tie.Need-returns-then-k-duration
 unfolding covered_by
 returns-then-k-duration c =
     let w = c.before.before.before in
-    rw (← w.before.duration.ensures, lt-ltb _ _ w.if-k-duration.true, ← c.before.wrapping_add_usize.ensures) c.dab.ensures
+    rw (← w.duration.ensures, lt-ltb _ _ w.if-k-duration.true, ← c.wrapping_add_usize.ensures) c.dab.ensures
 
 returns-else-k-duration : tie.Need-returns-else-k-duration
 unfolding covered_by
-returns-else-k-duration c = rw (← c.before.duration.ensures, le-ltb _ _ c.if-k-duration.false)
+returns-else-k-duration c = rw (← c.duration.ensures, le-ltb _ _ c.if-k-duration.false)
 
 pub cover_spec : {M : Type 1} → statement M
 cover_spec =

@@ -32,15 +32,15 @@ returns-then-row-lt8 : tie.Need-returns-then-row-lt8
 unfolding dabbed
 returns-then-row-lt8 c =
     let w = c.before.before in
-    rw (lt-ltb _ _ w.before.before.if-slot-lt3.true, lt-ltb _ _ w.before.if-interval-gt0.true, lt-ltb _ _ w.if-row-lt8.true, ← c.wrapping_add_u8.ensures)
+    rw (lt-ltb _ _ w.if-slot-lt3.true, lt-ltb _ _ w.if-interval-gt0.true, lt-ltb _ _ w.if-row-lt8.true, ← c.wrapping_add_u8.ensures)
 
 returns-else-row-lt8 : tie.Need-returns-else-row-lt8
 unfolding dabbed
-returns-else-row-lt8 c = rw (lt-ltb _ _ c.before.before.if-slot-lt3.true, lt-ltb _ _ c.before.if-interval-gt0.true, le-ltb _ _ c.if-row-lt8.false)
+returns-else-row-lt8 c = rw (lt-ltb _ _ c.if-slot-lt3.true, lt-ltb _ _ c.if-interval-gt0.true, le-ltb _ _ c.if-row-lt8.false)
 
 returns-else-interval-gt0 : tie.Need-returns-else-interval-gt0
 unfolding dabbed
-returns-else-interval-gt0 c = rw (lt-ltb _ _ c.before.if-slot-lt3.true, le-ltb _ _ c.if-interval-gt0.false)
+returns-else-interval-gt0 c = rw (lt-ltb _ _ c.if-slot-lt3.true, le-ltb _ _ c.if-interval-gt0.false)
 
 returns-else-slot-lt3 : tie.Need-returns-else-slot-lt3
 unfolding dabbed

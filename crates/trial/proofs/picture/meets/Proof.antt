@@ -17,11 +17,11 @@ returns-then-k-duration : tie.Need-returns-then-k-duration
 unfolding meets_in
 returns-then-k-duration c =
     let w = c.before.before in
-    rw (← w.before.duration.ensures, lt-ltb _ _ w.if-k-duration.true, ← c.before.wrapping_add_usize.ensures) c.marked.ensures
+    rw (← w.duration.ensures, lt-ltb _ _ w.if-k-duration.true, ← c.wrapping_add_usize.ensures) c.marked.ensures
 
 returns : tie.Need-returns
 unfolding meets_in
-returns c = rw (← c.before.duration.ensures, le-ltb _ _ c.if-k-duration.false)
+returns c = rw (← c.duration.ensures, le-ltb _ _ c.if-k-duration.false)
 
 pub meets_spec : {M : Type 1} → statement M
 meets_spec =

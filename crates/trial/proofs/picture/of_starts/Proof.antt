@@ -1,8 +1,8 @@
 -- `of_starts` meets its contract: its loop has painted those of the first operations that are placed. Assumes nothing.
 use Rattle.std.proofs.Common.{◌≡◌, ◌-◌, ◌≤◌, refl, ap, ◌∙◌, ⊎_elim, add-one, arith, eq-eqb, ne_eqb}
 use Rattle.trial.specs.Picture.{picture_of}
-use Rattle.trial.proofs.picture-1.of_starts.Statement.{statement}
-use Rattle.trial.proofs.picture-1.of_starts.Tie as tie
+use Rattle.trial.proofs.picture.of_starts.Statement.{statement}
+use Rattle.trial.proofs.picture.of_starts.Tie as tie
 
 abbrev invariant-loop-op : tie.invariant-loop-op
 invariant-loop-op d starts interval picture₀ op₀ picture op = (op ≤ 6) × (picture ≡ picture_of d starts interval op)
@@ -32,16 +32,16 @@ loop-op-smaller c = omega arith
 loop-op-preserved : tie.Need-loop-op-preserved invariant-loop-op decreases-loop-op
 unfolding picture_of
 loop-op-preserved c =
-    let so_far = c.before.before.before.loop-op.invariant.1 in (
+    let so_far = c.loop-op.invariant.1 in (
       omega arith,
       ⊎_elim
           (λ w. rw (add-one, ne_eqb _ _ w.0.taken, ← so_far, w.3) w.2.ensures)
           (λ w. rw (add-one, eq-eqb _ _ w.0.left, ← so_far) w.1)
-          c.if-s.branch,
+          c.if-s.branch-raw,
     )
 
 returns : tie.Need-returns invariant-loop-op decreases-loop-op
-returns c = c.before.loop-op.invariant.1 ∙ ap (picture_of _ _ _) (omega arith)
+returns c = c.loop-op.invariant.1 ∙ ap (picture_of _ _ _) (omega arith)
 
 pub of_starts_spec : {M : Type 1} → statement M
 of_starts_spec =

@@ -30,12 +30,12 @@ loop-k-preserved : tie.Need-loop-k-preserved invariant-loop-k decreases-loop-k
 unfolding painted
 loop-k-preserved c =
     let w = c.before in
-    (omega arith, rw (add-one, ← w.wrapping_add_usize.ensures, ← w.before.before.before.loop-k.invariant.1) c.dab.ensures)
+    (omega arith, rw (add-one, ← w.wrapping_add_usize.ensures, ← w.loop-k.invariant.1) c.dab.ensures)
 
 returns : tie.Need-returns invariant-loop-k decreases-loop-k
 returns c =
-    let all : c.before.loop-k.k ≡ c.before.before.args.cycles = omega arith in
-    rw (← all) c.before.loop-k.invariant.1
+    let all : c.loop-k.k ≡ c.args.cycles = omega arith in
+    rw (← all) c.loop-k.invariant.1
 
 pub paint_spec : {M : Type 1} → statement M
 paint_spec =

@@ -50,7 +50,7 @@ returns-then-meets : tie.Need-returns-then-meets invariant-loop-i decreases-loop
 returns-then-meets c =
     let l = c.before.before.before.before in
     let more : 48 - l.loop-i.i ≡ suc (48 - (l.loop-i.i + 1)) = omega arith in
-    sym (l.loop-i.invariant.1 ∙ place_met _ _ _ _ _ _ _ more c.before.meets.ensures c.if-meets.true)
+    sym (l.loop-i.invariant.1 ∙ place_met _ _ _ _ _ _ _ more c.meets.ensures c.if-meets.true)
 
 cover-requires : tie.Need-cover-requires invariant-loop-i decreases-loop-i
 cover-requires c κs = tt
@@ -66,8 +66,8 @@ loop-i-preserved c =
     let l = c.before.before.before.before.before in
     let more : 48 - l.loop-i.i ≡ suc (48 - (l.loop-i.i + 1)) = omega arith in
     let up : l.loop-i.i + 1 ≤ 48 = omega arith in
-    let next = place_next _ _ _ _ _ _ _ more c.before.before.meets.ensures c.before.if-meets.false c.if-own.cells-1 in
-    (up, l.loop-i.invariant.1 ∙ next (⊎_elim (λ w. rw (w.0.taken, w.3) w.2.ensures) (λ w. rw w.0.left w.1) c.if-own.branch))
+    let next = place_next _ _ _ _ _ _ _ more c.meets.ensures c.if-meets.false c.if-own.cells in
+    (up, l.loop-i.invariant.1 ∙ next (⊎_elim (λ w. rw (w.0.taken, w.3) w.2.ensures) (λ w. rw w.0.left w.1) c.if-own.branch-raw))
 
 returns : tie.Need-returns invariant-loop-i decreases-loop-i
 returns c =

@@ -50,16 +50,16 @@ loop-r-smaller c = omega arith
 loop-r-preserved : tie.Need-loop-r-preserved invariant-loop-r decreases-loop-r
 unfolding row_of rows_of
 loop-r-preserved c =
-    let so_far = c.before.before.loop-r.invariant.1 in (
+    let so_far = c.loop-r.invariant.1 in (
       omega arith,
       ⊎_elim
           (λ w. rw (add-one, lt-ltb _ _ w.0.taken, ← so_far, ← w.1.ensures.0, ← w.2.ensures.0, ← w.3.ensures.0) w.4)
           (λ w. rw (add-one, le-ltb _ _ w.0.left, ← so_far) w.1)
-          c.if-r-n.branch,
+          c.if-r-n.branch-raw,
     )
 
 returns : tie.Need-returns invariant-loop-r decreases-loop-r
-returns c = c.before.loop-r.invariant.1 ∙ ap (rows_of _ _) (omega arith)
+returns c = c.loop-r.invariant.1 ∙ ap (rows_of _ _) (omega arith)
 
 pub rows_spec : {M : Type 1} → statement M
 rows_spec =

@@ -25,10 +25,10 @@ loop-i-smaller c = omega arith
 
 loop-i-preserved : tie.Need-loop-i-preserved invariant-loop-i decreases-loop-i
 unfolding twice_in
-loop-i-preserved c = (omega arith, rw (add-one, ← c.before.before.loop-i.invariant.1))
+loop-i-preserved c = (omega arith, rw (add-one, ← c.loop-i.invariant.1))
 
 returns : tie.Need-returns invariant-loop-i decreases-loop-i
-returns c = c.before.loop-i.invariant.1 ∙ ap (twice_in _) (omega arith)
+returns c = c.loop-i.invariant.1 ∙ ap (twice_in _) (omega arith)
 
 pub twice_spec : {M : Type 1} → statement M
 twice_spec =

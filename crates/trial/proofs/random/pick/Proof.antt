@@ -16,7 +16,7 @@ wrapping_add_usize-requires c κs = tt
 
 returns : tie.Need-returns
 unfolding pick_of
-returns c = rw (ne_eqb _ _ c.before.if-n-eq0.false) c.wrapping_add_usize.ensures
+returns c = rw (ne_eqb _ _ c.if-n-eq0.false) c.wrapping_add_usize.ensures
 
 pub pick_spec : {M : Type 1} → statement M
 pick_spec =

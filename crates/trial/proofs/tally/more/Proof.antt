@@ -21,7 +21,7 @@ bounds-out-kind-then-kind-lt9 c = omega arith
 
 returns-then-kind-lt9 : tie.Need-returns-then-kind-lt9
 unfolding more_of
-returns-then-kind-lt9 c = rw (lt-ltb _ _ c.before.if-kind-lt9.true, ← c.wrapping_add_usize.ensures)
+returns-then-kind-lt9 c = rw (lt-ltb _ _ c.if-kind-lt9.true, ← c.wrapping_add_usize.ensures)
 
 returns-else-kind-lt9 : tie.Need-returns-else-kind-lt9
 unfolding more_of

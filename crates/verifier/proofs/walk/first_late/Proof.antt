@@ -37,9 +37,9 @@ returns-then-starts-o-ge4096 : tie.Need-returns-then-starts-o-ge4096 invariant-l
 unfolding first_refusal
 returns-then-starts-o-ge4096 c =
     let a = c.before.before.before in
-    let xs = a.before.args.starts.now in
-    let n = a.before.args.n in
-    sym (found_refused 15 (first (late xs) (up_from 0 n)) a.loop-o.o [] (row_first (late xs) n a.loop-o.o c.before.before.loop-o-test.true a.loop-o.invariant.1 (le-leb 4096 (get_or xs a.loop-o.o 0) c.if-starts-o-ge4096.true)))
+    let xs = a.args.starts.now in
+    let n = a.args.n in
+    sym (found_refused 15 (first (late xs) (up_from 0 n)) a.loop-o.o [] (row_first (late xs) n a.loop-o.o c.loop-o-test.true a.loop-o.invariant.1 (le-leb 4096 (get_or xs a.loop-o.o 0) c.if-starts-o-ge4096.true)))
 
 overflow_add-o : tie.Need-overflow_add-o invariant-loop-o decreases-loop-o
 overflow_add-o c = omega arith
@@ -50,15 +50,15 @@ loop-o-smaller c = omega arith
 loop-o-preserved : tie.Need-loop-o-preserved invariant-loop-o decreases-loop-o
 loop-o-preserved c =
     let a = c.before.before.before in
-    let xs = a.before.args.starts.now in
+    let xs = a.args.starts.now in
     (omega arith, below_next (late xs) a.loop-o.o a.loop-o.invariant.1 (lt-leb 4096 (get_or xs a.loop-o.o 0) c.if-starts-o-ge4096.false))
 
 returns : tie.Need-returns invariant-loop-o decreases-loop-o
 unfolding first_refusal
 returns c =
     let a = c.before in
-    let xs = a.before.args.starts.now in
-    let n = a.before.args.n in
+    let xs = a.args.starts.now in
+    let n = a.args.n in
     sym (found_passed 15 (first (late xs) (up_from 0 n)) [] (first_none (late xs) (up_from 0 n) (row_any (late xs) 0 n (λ k p q. a.loop-o.invariant.1 k (omega (arith, c.loop-o-test.false))))))
 
 pub first_late_spec : {M : Type 1} → statement M
