@@ -26,7 +26,7 @@ returns-in_default c =
 slice_bounds-file-end : tie.Need-slice_bounds-file-end
 slice_bounds-file-end c =
     let s = c.before.before.before.before.before.before.before.before in
-    sym (length-take-le s.args.length- s.args.store.now s.requires.0)
+    sym (length-take-le s.args.length_ s.args.store.now s.requires.0)
 
 count_gone-requires : tie.Need-count_gone-requires
 count_gone-requires c κs =

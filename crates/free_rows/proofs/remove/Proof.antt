@@ -23,7 +23,7 @@ returns-in_default c =
     (m.remove-removed.ensures, else_free (m.remove-removed.ensures 4096 s.requires.1) s.args.free.now s.requires.2 (other_done m.remove-removed.result c.in_default.keys2))
 
 slice_bounds-count-end : tie.Need-slice_bounds-count-end
-slice_bounds-count-end c = let s = c.before.before.before.before.before.before.before.before in sym (length-take-le s.args.length- s.args.store.now s.requires.0)
+slice_bounds-count-end c = let s = c.before.before.before.before.before.before.before.before in sym (length-take-le s.args.length_ s.args.store.now s.requires.0)
 
 count-requires : tie.Need-count-requires
 count-requires c κs =

@@ -25,9 +25,9 @@ attempt_all-requires c κs =
     ready_at a.loop-ii.ii a.requires a.loop-ii.invariant.0 (omega (arith, a.last_of-last.ensures)) a.loop-ii.invariant.1
 
 -- after the attempts at an interval
-left_by : (c : tie.After-attempt_all invariant-loop-ii decreases-loop-ii) → let s = c.before.before.before.before.before.before.before.before.args in
-    Untouched s.starts.now s.rows.now c.attempt-all.new.1.1.1.1.1.0 c.attempt-all.new.1.1.1.1.1.1.0
-left_by c = untouched_again c.before.before.before.before.loop.invariant.1 c.attempt-all.ensures.untouched
+left_by : (c : tie.After-attempt_all invariant-loop-ii decreases-loop-ii) → let s = c.args in
+    Untouched s.starts.now s.rows.now c.attempt_all.new.1.1.1.1.1.0 c.attempt_all.new.1.1.1.1.1.1.0
+left_by c = untouched_again c.loop-ii.invariant.1 c.attempt_all.ensures.untouched
 
 shape_of-rows-then-attempt_all : tie.Need-shape_of-rows-then-attempt_all invariant-loop-ii decreases-loop-ii
 shape_of-rows-then-attempt_all c = (left_by c.before.before.before).rows_length

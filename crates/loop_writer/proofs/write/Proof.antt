@@ -89,7 +89,7 @@ checked c = c.before.before
 room : (c : tie.In-Fine-room) → let s = start (checked c) in total (lists s) ≤ length s.args.buffer.now
 room c =
     let s = start (checked c) in
-    lent_fine (total (lists s)) (length s.args.buffer.now) c.before.before.lent.ensures c.enum-told3.given.1
+    lent_fine (total (lists s)) (length s.args.buffer.now) c.lent-room.ensures c.in-Fine-room.is
 
 -- ---- the bytes
 

@@ -60,8 +60,8 @@ write_refusal-requires-in_default-opened : tie.Need-write_refusal-requires-in_de
 write_refusal-requires-in_default-opened c κs = omega arith
 
 -- nothing is against the calls
-fine : (c : tie.In-Fine) → let a = (start c.before.before).args in first_refusal (call_checks a.calls.now (length a.replies.now)) ≡ none
-fine c = sym c.before.before.unfit.ensures ∙ ap refusal_of c.enum_told.given.1
+fine : (c : tie.In-Fine) → let a = (start c.before).args in first_refusal (call_checks a.calls.now (length a.replies.now)) ≡ none
+fine c = sym c.unfit-checked.ensures ∙ ap refusal_of c.in-Fine.is
 
 shape_of-rows-in_default-opened : tie.Need-shape_of-rows-in_default-opened
 shape_of-rows-in_default-opened c = omega arith

@@ -81,12 +81,12 @@ tried c = c.before.before.before.before.before.before.before
 -- the search was that of the intervals below
 searched_is : (c : tie.After-search-searched) → let t = tried c in
     let a = (start t).args in
-    Searches a.file.now (cap_below t.place_all-quick.result a.cap) a.horizon a.budget a.list.now t.place_all-quick.last.1.1.1.1.1.1.0 c.search.result c.search.new.1.1.1.1.0 c.search.new.1.1.1.1.1.0
-searched_is c = rw c.before.before.before.below.ensures at c.search.ensures
+    Searches a.file.now (cap_below t.place_all-quick.result a.cap) a.horizon a.budget a.list.now t.place_all-quick.last.1.1.1.1.1.1.0 c.search-searched.result c.search-searched.new.1.1.1.1.0 c.search-searched.new.1.1.1.1.1.0
+searched_is c = rw c.below.ensures at c.search-searched.ensures
 
 -- the quick list was not at the larger bound
 not_least : (c : tie.After-search-searched) → let t = tried c in t.place_all-quick.result ≡ (bounding t).larger-least.result → ⊥
-not_least c = c.before.before.before.before.if1.false
+not_least c = c.if-quick-least.false
 
 -- the search, from what it came to: a schedule; an end; a refusal
 abbrev found_from : tie.In-Found → tie.After-search-searched

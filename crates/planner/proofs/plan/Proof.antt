@@ -36,8 +36,8 @@ abbrev start : tie.In-Accepted → tie.Start
 start c = c.before.before.before.before.before
 
 -- what the reader's answer says of the file
-known : (c : tie.In-Accepted) → let t = c.before.reading.given.0 in IsAccepted (start c).args.file.now t.0 t.1.0 t.1.1.0
-known c = read_accepted _ _ _ _ (sym (ap reading_of c.before.reading.given.1) ∙ c.before.before.before.read.ensures)
+known : (c : tie.In-Accepted) → let t = (c.in-Accepted.n, (c.in-Accepted.field-1, (c.in-Accepted.field-2, tt))) in IsAccepted (start c).args.file.now t.0 t.1.0 t.1.1.0
+known c = read_accepted _ _ _ _ (sym (ap reading_of c.in-Accepted.is) ∙ c.read-reading.ensures)
 
 request-asked-requires : tie.Need-request-asked-requires
 request-asked-requires c κs = omega arith
@@ -57,10 +57,10 @@ returns-in_default-asked c = let a = c.before.before in by_request (known a.befo
 -- ---- once the request passes
 
 -- no check fails
-fine : (c : tie.In-Fine) → let k = c.before.before.before in
+fine : (c : tie.In-Fine) → let k = c.before.before in
     let g = (start k).args in
-    Passes g.file.now k.before.reading.given.0.0 g.cap g.horizon g.budget g.list.now g.rows.now
-fine c = let a = c.before.before in all_pass (known a.before) a.request.ensures c.enum-told2.given.1
+    Passes g.file.now k.in-Accepted.n g.cap g.horizon g.budget g.list.now g.rows.now
+fine c = let a = c.before in all_pass (known a.before) a.request-asked.ensures c.in-Fine.is
 
 lower-lower-requires : tie.Need-lower-lower-requires
 lower-lower-requires c κs = (known c.before.before).file

@@ -52,7 +52,7 @@ abbrev at_cap : tie.In-Fine → tie.Start
 at_cap c = c.before.before
 
 cap_passes : (c : tie.In-Fine) → let s = at_cap c in first_refusal (byCap s s.args.n) ≡ first_refusal (byHorizon s s.args.n)
-cap_passes c = let s = at_cap c in rest_decides (range 1 4096 s.args.cap ∷ []) (byHorizon s s.args.n) c.before.before.range.ensures c.enum_told.given.1
+cap_passes c = let s = at_cap c in rest_decides (range 1 4096 s.args.cap ∷ []) (byHorizon s s.args.n) c.range-by_cap.ensures c.in-Fine.is
 
 -- ---- the horizon
 
@@ -77,9 +77,9 @@ at-horizon c = at_cap c.before.before
 
 horizon_passes : (c : tie.In-Fine-by_horizon) → let s = at-horizon c in first_refusal (byCap s s.args.n) ≡ first_refusal (byBudget s s.args.n)
 horizon_passes c =
-    let k = c.before.before in
+    let k = c.before in
     let s = at-horizon c in
-    cap_passes k.before ∙ rest_decides (range 2 4096 s.args.horizon ∷ []) (byBudget s s.args.n) k.range2.ensures c.enum-told3.given.1
+    cap_passes k.before ∙ rest_decides (range 2 4096 s.args.horizon ∷ []) (byBudget s s.args.n) k.range-by_horizon.ensures c.in-Fine-by_horizon.is
 
 -- ---- the budget
 
@@ -104,9 +104,9 @@ at-budget c = at-horizon c.before.before
 
 budget_passes : (c : tie.In-Fine-by_budget) → let s = at-budget c in first_refusal (byCap s s.args.n) ≡ first_refusal (byList s s.args.n)
 budget_passes c =
-    let k = c.before.before in
+    let k = c.before in
     let s = at-budget c in
-    horizon_passes k.before ∙ rest_decides (range 3 1000000 s.args.budget ∷ []) (byList s s.args.n) k.range3.ensures c.enum-told5.given.1
+    horizon_passes k.before ∙ rest_decides (range 3 1000000 s.args.budget ∷ []) (byList s s.args.n) k.range-by_budget.ensures c.in-Fine-by_budget.is
 
 -- ---- the list, then the table
 

@@ -34,8 +34,8 @@ overflow_mul-n : tie.Need-overflow_mul-n
 overflow_mul-n c = omega arith
 
 -- every call has a kind
-known : (c : tie.In-Fine) → let xs = c.before.before.before.before.args.calls.now in first_refusal (flat_map (kind_check xs) (up_from 0 (call_count xs))) ≡ none
-known c = sym c.before.before.kinds.ensures ∙ ap refusal_of c.enum_told.given.1
+known : (c : tie.In-Fine) → let xs = c.args.calls.now in first_refusal (flat_map (kind_check xs) (up_from 0 (call_count xs))) ≡ none
+known c = sym c.kinds-checked.ensures ∙ ap refusal_of c.in-Fine.is
 
 returns-then-n-calls : tie.Need-returns-then-n-calls
 returns-then-n-calls c =
@@ -47,8 +47,8 @@ overflow_mul-n-2 : tie.Need-overflow_mul-n-2
 overflow_mul-n-2 c = omega arith
 
 -- and no number is left over
-whole : (c : tie.Else-n-calls) → let xs = c.before.before.before.before.before.args.calls.now in length xs ≤ 3 * call_count xs
-whole c = omega (arith, c.if1.false)
+whole : (c : tie.Else-n-calls) → let xs = c.args.calls.now in length xs ≤ 3 * call_count xs
+whole c = omega (arith, c.if-n-calls.false)
 
 returns-then-room-n : tie.Need-returns-then-room-n
 returns-then-room-n c =

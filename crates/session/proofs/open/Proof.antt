@@ -36,8 +36,8 @@ returns-in_default c =
     rw (c.closed-nothing.ensures, e) (open_refused a.file.now a.interval a.horizon a.rows.now _ _ (sym k.openable-answer.ensures ∙ ap refusal_of e))
 
 -- nothing is against it
-fine : (c : tie.In-Fine) → let a = (start c.before.before).args in first_refusal (open_checks a.file.now a.interval a.horizon (length a.rows.now)) ≡ none
-fine c = sym c.before.before.openable.ensures ∙ ap refusal_of c.enum_told.given.1
+fine : (c : tie.In-Fine) → let a = (start c.before).args in first_refusal (open_checks a.file.now a.interval a.horizon (length a.rows.now)) ≡ none
+fine c = sym c.openable-answer.ensures ∙ ap refusal_of c.in-Fine.is
 
 copy_file-requires : tie.Need-copy_file-requires
 copy_file-requires c κs =

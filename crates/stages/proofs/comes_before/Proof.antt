@@ -31,7 +31,7 @@ same_stage : (c : tie.Else-stage) → let a = (start c.before).args in eqb (stag
 same_stage c =
     let s = c.before in
     let a = (start s).args in
-    eq-eqb (stage a.interval a.other) (stage a.interval a.own_val) (sym s.before.stage.ensures ∙ c.if1.false ∙ s.stage2.ensures)
+    eq-eqb (stage a.interval a.other) (stage a.interval a.own_val) (sym s.stage.ensures ∙ c.if-stage.false ∙ s.stage-2.ensures)
 
 cycle-a-requires : tie.Need-cycle-a-requires
 cycle-a-requires c κs = search rules

@@ -50,11 +50,11 @@ loop-p-smaller : tie.Need-loop-p-smaller invariant-loop-p decreases-loop-p
 loop-p-smaller c = omega arith
 
 -- what was told of operation p is whether it comes before
-told : (c : tie.After-comes_before invariant-loop-p decreases-loop-p) → let i = c.before.before in let a = (start i).args in earlier a.interval a.starts.now a.op i.before.loop.p ≡ c.comes-before.result
+told : (c : tie.After-comes_before invariant-loop-p decreases-loop-p) → let i = c.before.before in let a = (start i).args in earlier a.interval a.starts.now a.op i.loop-p.p ≡ c.comes_before.result
 told c =
     let i = c.before.before in
     let a = (start i).args in
-    sym (c.comes-before.ensures ∙ ap (λ (s : ℕ). comes_before a.interval s a.op (get_or a.starts.now i.before.loop.p 0) i.before.loop.p) i.before.before.start_of_lem.ensures.0)
+    sym (c.comes_before.ensures ∙ ap (λ (s : ℕ). comes_before a.interval s a.op (get_or a.starts.now i.loop-p.p 0) i.loop-p.p) i.start_of-own.ensures.0)
 
 loop-p-preserved : tie.Need-loop-p-preserved invariant-loop-p decreases-loop-p
 loop-p-preserved c =

@@ -42,8 +42,8 @@ start c = c.before.before.before.before
 abbrev file : tie.In-Accepted → List ℕ
 file c = (start c).args.file.now
 
-known : (c : tie.In-Accepted) → let t = c.before.reading.given.0 in IsAccepted (file c) t.0 t.1.0 t.1.1.0
-known c = read_accepted _ _ _ _ (sym (ap reading_of c.before.reading.given.1) ∙ c.before.before.before.read.ensures)
+known : (c : tie.In-Accepted) → let t = (c.in-Accepted.n, (c.in-Accepted.field-1, (c.in-Accepted.field-2, tt))) in IsAccepted (file c) t.0 t.1.0 t.1.1.0
+known c = read_accepted _ _ _ _ (sym (ap reading_of c.in-Accepted.is) ∙ c.read-reading.ensures)
 
 -- the checks that are left, for n operations: of the list, and before it of the interval
 abbrev byList : tie.In-Accepted → ℕ → List Check
@@ -78,13 +78,13 @@ returns-in_default-by_interval c =
 
 -- ---- once the interval passes
 
-interval_decides : (c : tie.In-Fine) → let k = c.before.before.before in
+interval_decides : (c : tie.In-Fine) → let k = c.before.before in
     let a = (start k).args in
     first_refusal (proposed_checks a.file.now a.interval a.starts.now) ≡ first_refusal (byList k (ops k))
 interval_decides c =
-    let r = c.before.before in
+    let r = c.before in
     let k = r.before in
-    accepted_decides k ∙ rest_decides (range 1 4096 (start k).args.interval ∷ []) (byList k (ops k)) r.range.ensures c.enum-told2.given.1
+    accepted_decides k ∙ rest_decides (range 1 4096 (start k).args.interval ∷ []) (byList k (ops k)) r.range-by_interval.ensures c.in-Fine.is
 
 lent-by_list-requires : tie.Need-lent-by_list-requires
 lent-by_list-requires c κs = omega arith

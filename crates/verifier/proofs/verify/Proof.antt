@@ -50,16 +50,16 @@ file c = (start c).args.file.now
 abbrev list : tie.After-proposed-checked → List ℕ
 list c = one_each (loop_of (file c)) (start c).args.starts.now
 
-fine : (c : tie.In-Fine) → let p = c.before.before in first_refusal (proposed_checks (file p) (start p).args.interval (start p).args.starts.now) ≡ none
-fine c = sym c.before.before.proposed.ensures ∙ ap refusal_of c.enum_told.given.1
+fine : (c : tie.In-Fine) → let p = c.before in first_refusal (proposed_checks (file p) (start p).args.interval (start p).args.starts.now) ≡ none
+fine c = sym c.proposed-checked.ensures ∙ ap refusal_of c.in-Fine.is
 
 -- the answer is what the walks find
-by_found : (c : tie.In-Fine) (e : Option ℕ) (p : Option (ℕ × ℕ)) → let k = c.before.before in
+by_found : (c : tie.In-Fine) (e : Option ℕ) (p : Option (ℕ × ℕ)) → let k = c.before in
     let a = (start k).args in
     first_broken (loop_of (file k)) a.interval (list k) ≡ e → first_pair (loop_of (file k)) a.interval (list k) ≡ p
     → answered (judge e p (λ q. number_of (pair_place (loop_of (file k)) a.interval (list k) q))) ≡ verify_file (file k) a.interval a.starts.now
 by_found c e p x y =
-    let k = c.before.before in
+    let k = c.before in
     let a = (start k).args in
     sym (by_walks (file k) a.interval a.starts.now (fine c)
     ∙ ap₂ (λ (d : Option ℕ) (r : Option (ℕ × ℕ)). answered (judge d r (λ q. number_of (pair_place (loop_of (file k)) a.interval (list k) q)))) x y)
@@ -87,8 +87,8 @@ returns-in_default-dependence c =
 
 -- ---- once the dependences hold
 
-none_broken : (c : tie.In-Nothing) → let k = c.before.before.before.before.before in first_broken (loop_of (file k)) (start k).args.interval (list k) ≡ none
-none_broken c = sym c.before.before.first-broken.ensures ∙ ap broken_of c.enum-told3.given.1
+none_broken : (c : tie.In-Nothing) → let k = c.before.before.before in first_broken (loop_of (file k)) (start k).args.interval (list k) ≡ none
+none_broken c = sym c.first_broken-dependence.ensures ∙ ap broken_of c.in-Nothing.is
 
 first_pair-pair-requires : tie.Need-first_pair-pair-requires
 first_pair-pair-requires c κs = let b = c.before in first_broken-dependence-requires b.before κs
@@ -119,7 +119,7 @@ abbrev other : tie.In-At → ℕ
 other c = c.in-At.b
 
 found : (c : tie.In-At) → let k = (after c).before in first_pair (loop_of (file k)) (start k).args.interval (list k) ≡ some (one c, other c)
-found c = sym (pair-at c).first_pair-pair.ensures ∙ ap pair_of c.before.pair.given.1
+found c = sym (pair-at c).first_pair-pair.ensures ∙ ap pair_of c.in-At.is
 
 is_pair : (c : tie.In-At) → let k = (after c).before in PairFound (loop_of (file k)) (start k).args.interval (list k) (one c) (other c)
 is_pair c = let k = (after c).before in pair_found (loop_of (file k)) (start k).args.interval (list k) (one c) (other c) (found c)

@@ -38,8 +38,8 @@ returns-in_default c =
     ap refusal_of e ∙ sym (force_early a.file.now a.interval a.horizon a.starts.now a.op a.start _ (sym k.known-first.ensures ∙ ap refusal_of e))
 
 -- nothing against it so far
-known_is : (c : tie.In-Fine) → let a = (start c.before.before).args in first_refusal (common a.file.now a.horizon a.op a.start a.starts.now) ≡ none
-known_is c = sym c.before.before.known.ensures ∙ ap refusal_of c.enum_told.given.1
+known_is : (c : tie.In-Fine) → let a = (start c.before).args in first_refusal (common a.file.now a.horizon a.op a.start a.starts.now) ≡ none
+known_is c = sym c.known-first.ensures ∙ ap refusal_of c.in-Fine.is
 
 first_own_broken-broken-requires : tie.Need-first_own_broken-broken-requires
 first_own_broken-broken-requires c κs =
@@ -67,8 +67,8 @@ returns-in_default-broken c =
     ∙ sym (force_broken a.file.now a.interval a.horizon a.starts.now a.op a.start (known_is t) _ (sym w.first_own_broken-broken.ensures ∙ ap broken_of b.in_default-broken.is))
 
 -- no dependence of the operation with itself is broken
-held_is : (c : tie.In-Nothing) → let a = (start c.before.before.before.before.before).args in first_breach (loop_of a.file.now) a.interval nowhere a.op a.start ≡ none
-held_is c = sym c.before.before.first-own-broken.ensures ∙ ap broken_of c.enum-told3.given.1
+held_is : (c : tie.In-Nothing) → let a = (start c.before.before.before).args in first_breach (loop_of a.file.now) a.interval nowhere a.op a.start ≡ none
+held_is c = sym c.first_own_broken-broken.ensures ∙ ap broken_of c.in-Nothing.is
 
 first_use-requires : tie.Need-first_use-requires
 first_use-requires c κs =

@@ -21,15 +21,15 @@ returns-then-op_count-op c =
     sym (no_such a.file.now 0 a.op 0 a.starts.now _ (omega (arith, c.if-op_count-op.true, k.op_count.ensures)))
 
 -- the operation is there
-inside : (c : tie.Else-op_count-op) → let a = c.before.before.before.args in a.op < size (loop_of a.file.now)
-inside c = omega (arith, c.if1.false, c.before.op_count.ensures)
+inside : (c : tie.Else-op_count-op) → let a = c.args in a.op < size (loop_of a.file.now)
+inside c = omega (arith, c.if-op_count-op.false, c.op_count.ensures)
 
 -- and is below 64
 small : (c : tie.Else-op_count-op) → c.args.op < 64
 small c = let s = c.before.before.before in omega (arith, inside c, (accepted_ok s.args.file.now s.requires.accepted).few)
 
 -- what the array has in its place
-there : (c : tie.Else-op_count-op) → let a = c.before.before.before.args in get_or a.starts.now a.op 65535 ≡ get_or a.starts.now a.op 0
+there : (c : tie.Else-op_count-op) → let a = c.args in get_or a.starts.now a.op 65535 ≡ get_or a.starts.now a.op 0
 there c = let s = c.before.before.before in get_or_within s.args.starts.now s.args.op 65535 0 (omega (arith, small c, s.requires.whole))
 
 offset_bounds-starts-op : tie.Need-offset_bounds-starts-op

@@ -17,7 +17,7 @@ use Rattle.board.proofs.moves.force.Statement.{statement}
 use Rattle.board.proofs.moves.force.Tie as tie
 
 slice_bounds-file-end : tie.Need-slice_bounds-file-end
-slice_bounds-file-end c = let s = c.before.before in sym (length-take-le s.args.length- s.args.store.now s.requires.0)
+slice_bounds-file-end c = let s = c.before.before in sym (length-take-le s.args.length_ s.args.store.now s.requires.0)
 
 forceable-checked-requires : tie.Need-forceable-checked-requires
 forceable-checked-requires c κs =
@@ -29,7 +29,7 @@ start c = c.before.before.before
 
 -- the file
 abbrev file : tie.Start → List ℕ
-file s = take s.args.length- s.args.store.now
+file s = take s.args.length_ s.args.store.now
 
 enum_told-1 : tie.Need-enum_told-1
 enum_told-1 c = omega arith
@@ -47,9 +47,9 @@ returns-in_default c =
     did_passed s.requires.1 (force s.args.op s.args.start) k.forceable-checked.ensures c.in_default.is c.passed_on.ensures
 
 -- nothing is against it
-fine : (c : tie.In-Fine) → let s = start c.before.before in
+fine : (c : tie.In-Fine) → let s = start c.before in
     first_refusal (checks (setup_as (file s) s.args.interval s.args.horizon) (force s.args.op s.args.start) (bare (file s) s.args.starts.now)) ≡ none
-fine c = sym c.before.before.forceable.ensures ∙ ap refusal_of c.enum_told.given.1
+fine c = sym c.forceable-checked.ensures ∙ ap refusal_of c.in-Fine.is
 
 -- its start is in range
 near : (c : tie.In-Fine) → (start c.before).args.start < 4096

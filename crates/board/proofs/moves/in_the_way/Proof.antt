@@ -52,7 +52,7 @@ near : (c : tie.Else-hits-p-eq1) → let s = c.before.before.before.before.befor
 near c =
     let i = c.before.before in
     let s = i.before.before.before in
-    omega (arith, number_is s, sane_near s.requires.sane s.args.p (λ e. i.if1.false (sym (number_is s) ∙ e)))
+    omega (arith, number_is s, sane_near s.requires.sane s.args.p (λ e. i.if-other.false (sym (number_is s) ∙ e)))
 
 -- no dependence with it is broken
 unmarked : (c : tie.Else-hits-p-eq1) → let s = c.before.before.before.before.before in
@@ -60,7 +60,7 @@ unmarked : (c : tie.Else-hits-p-eq1) → let s = c.before.before.before.before.b
 unmarked c =
     let i = c.before.before in
     let s = i.before.before.before in
-    sym (s.requires.hit.1 (other s i.if1.false)) ∙ ne_eqb (get_or s.args.hits.now s.args.p 0) 1 c.if2.false
+    sym (s.requires.hit.1 (other s i.if-other.false)) ∙ ne_eqb (get_or s.args.hits.now s.args.p 0) 1 c.if-hits-p-eq1.false
 
 returns-then-free : tie.Need-returns-then-free
 returns-then-free c =

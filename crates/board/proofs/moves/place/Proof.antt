@@ -16,7 +16,7 @@ use Rattle.board.proofs.moves.place.Statement.{statement}
 use Rattle.board.proofs.moves.place.Tie as tie
 
 slice_bounds-file-end : tie.Need-slice_bounds-file-end
-slice_bounds-file-end c = let s = c.before.before in sym (length-take-le s.args.length- s.args.store.now s.requires.0)
+slice_bounds-file-end c = let s = c.before.before in sym (length-take-le s.args.length_ s.args.store.now s.requires.0)
 
 placeable-checked-requires : tie.Need-placeable-checked-requires
 placeable-checked-requires c κs = c.requires.1
@@ -26,7 +26,7 @@ start c = c.before.before.before
 
 -- the file
 abbrev file : tie.Start → List ℕ
-file s = take s.args.length- s.args.store.now
+file s = take s.args.length_ s.args.store.now
 
 enum_told-1 : tie.Need-enum_told-1
 enum_told-1 c = omega arith
@@ -47,9 +47,9 @@ returns-in_default c =
     did_passed s.requires.1 (place s.args.op s.args.start) k.placeable-checked.ensures c.in_default.is c.passed_on.ensures
 
 -- nothing is against it
-fine : (c : tie.In-Fine) → let s = start c.before.before in
+fine : (c : tie.In-Fine) → let s = start c.before in
     first_refusal (checks (setup_as (file s) s.args.interval s.args.horizon) (place s.args.op s.args.start) (bare (file s) s.args.starts.now)) ≡ none
-fine c = sym c.before.before.placeable.ensures ∙ ap refusal_of c.enum_told.given.1
+fine c = sym c.placeable-checked.ensures ∙ ap refusal_of c.in-Fine.is
 
 put-requires : tie.Need-put-requires
 put-requires c κs =

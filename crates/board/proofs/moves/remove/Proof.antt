@@ -15,7 +15,7 @@ use Rattle.board.proofs.moves.remove.Statement.{statement}
 use Rattle.board.proofs.moves.remove.Tie as tie
 
 slice_bounds-file-end : tie.Need-slice_bounds-file-end
-slice_bounds-file-end c = let s = c.before.before in sym (length-take-le s.args.length- s.args.store.now s.requires.0)
+slice_bounds-file-end c = let s = c.before.before in sym (length-take-le s.args.length_ s.args.store.now s.requires.0)
 
 removable-checked-requires : tie.Need-removable-checked-requires
 removable-checked-requires c κs = let b = c.requires.1 in record { accepted = b.accepted; whole = b.sane.whole }
@@ -25,7 +25,7 @@ start c = c.before.before.before
 
 -- the file
 abbrev file : tie.Start → List ℕ
-file s = take s.args.length- s.args.store.now
+file s = take s.args.length_ s.args.store.now
 
 enum_told-1 : tie.Need-enum_told-1
 enum_told-1 c = omega arith
@@ -43,9 +43,9 @@ returns-in_default c h b =
     did_passed b (remove s.args.op) k.removable-checked.ensures c.in_default.is c.passed_on.ensures
 
 -- nothing is against it
-fine : (c : tie.In-Fine) → let s = start c.before.before in
+fine : (c : tie.In-Fine) → let s = start c.before in
     first_refusal (checks (setup_as (file s) 0 0) (remove s.args.op) (bare (file s) s.args.starts.now)) ≡ none
-fine c = sym c.before.before.removable.ensures ∙ ap refusal_of c.enum_told.given.1
+fine c = sym c.removable-checked.ensures ∙ ap refusal_of c.in-Fine.is
 
 lift-requires : tie.Need-lift-requires
 lift-requires c κs =

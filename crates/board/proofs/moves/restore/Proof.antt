@@ -7,7 +7,7 @@ use Rattle.board.proofs.moves.restore.Statement.{statement}
 use Rattle.board.proofs.moves.restore.Tie as tie
 
 slice_bounds-file-end : tie.Need-slice_bounds-file-end
-slice_bounds-file-end c = let s = c.before.before in sym (length-take-le s.args.length- s.args.store.now s.requires.0)
+slice_bounds-file-end c = let s = c.before.before in sym (length-take-le s.args.length_ s.args.store.now s.requires.0)
 
 lift_others-requires : tie.Need-lift_others-requires
 lift_others-requires c κs = let p = c.requires in (p.1, p.2)

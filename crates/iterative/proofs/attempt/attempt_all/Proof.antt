@@ -32,7 +32,7 @@ attempt-requires c κs = let a = c.before.before.before.before.before in ready_a
 -- after an attempt
 left_by : (c : tie.After-attempt invariant-loop-order decreases-loop-order) → let s = (entry c.before.before.before.before.before.before).args in
     Untouched s.starts.now s.rows.now c.attempt.new.1.1.1.1.1.1.1.0 c.attempt.new.1.1.1.1.1.1.1.1.0
-left_by c = untouched_again c.before.before.before.before.before.before.loop.invariant.1 c.attempt.ensures.untouched
+left_by c = untouched_again c.loop-order.invariant.1 c.attempt.ensures.untouched
 
 shape_of-rows-then-attempt : tie.Need-shape_of-rows-then-attempt invariant-loop-order decreases-loop-order
 shape_of-rows-then-attempt c = (left_by c.before.before.before).rows_length

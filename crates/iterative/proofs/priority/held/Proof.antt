@@ -54,8 +54,8 @@ duration-sum-requires : tie.Need-duration-sum-requires invariant-loop-j decrease
 duration-sum-requires c κs = ((entry c).requires.0, (here c).inside)
 
 -- what is added
-adds : (c : tie.After-duration-sum invariant-loop-j decreases-loop-j) → let s = entry c.before in c.duration.result ≡ (use_at (op_at (loop_of s.args.file.now) s.args.op) c.before.before.loop.j).duration
-adds c = c.duration.ensures ∙ ap (λ (u : Use). u.duration) (here c.before).is
+adds : (c : tie.After-duration-sum invariant-loop-j decreases-loop-j) → let s = entry c.before in c.duration-sum.result ≡ (use_at (op_at (loop_of s.args.file.now) s.args.op) c.loop-j.j).duration
+adds c = c.duration-sum.ensures ∙ ap (λ (u : Use). u.duration) (here c.before).is
 
 overflow_add-sum : tie.Need-overflow_add-sum invariant-loop-j decreases-loop-j
 overflow_add-sum c =

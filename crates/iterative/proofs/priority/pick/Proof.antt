@@ -35,8 +35,8 @@ loop-o-smaller : tie.Need-loop-o-smaller invariant-loop-o decreases-loop-o
 loop-o-smaller c = omega arith
 
 -- the operation whose turn it is
-here : (i : tie.In-loop-o invariant-loop-o decreases-loop-o) → let a = i.before in get_or a.before.args.starts.now a.loop.o 0 ≡ get_or a.before.args.starts.now a.loop.o 65535
-here i = let a = i.before in get_or_within a.before.args.starts.now a.loop.o 0 65535 (omega arith)
+here : (i : tie.In-loop-o invariant-loop-o decreases-loop-o) → let a = i.before in get_or a.args.starts.now a.loop-o.o 0 ≡ get_or a.args.starts.now a.loop-o.o 65535
+here i = let a = i.before in get_or_within a.args.starts.now a.loop-o.o 0 65535 (omega arith)
 
 loop-o-preserved : tie.Need-loop-o-preserved invariant-loop-o decreases-loop-o
 loop-o-preserved c =

@@ -44,13 +44,13 @@ wide-start-requires : tie.Need-wide-start-requires
 wide-start-requires c κs = omega arith
 
 -- its start
-start_is : (c : tie.After-wide-start) → let s = entry c.before.before in get_or s.args.starts.now (dep_at (loop_of s.args.file.now) s.args.e).src 65535 ≡ c.wide.result
+start_is : (c : tie.After-wide-start) → let s = entry c.before.before in get_or s.args.starts.now (dep_at (loop_of s.args.file.now) s.args.e).src 65535 ≡ c.wide-start.result
 start_is c =
     let k = c.before.before in
     let s = entry k in
-    ap (λ (o : ℕ). get_or s.args.starts.now o 65535) (sym k.before.source.ensures)
-    ∙ get_or_within s.args.starts.now k.before.source.result 65535 0 (omega (arith, inside k, s.requires.3.whole))
-    ∙ sym c.wide.ensures
+    ap (λ (o : ℕ). get_or s.args.starts.now o 65535) (sym k.source-from.ensures)
+    ∙ get_or_within s.args.starts.now k.source-from.result 65535 0 (omega (arith, inside k, s.requires.3.whole))
+    ∙ sym c.wide-start.ensures
 
 returns-then-start-eq65535 : tie.Need-returns-then-start-eq65535
 returns-then-start-eq65535 c = due_blank (start_is c.before ∙ c.if-start-eq65535.true)

@@ -11,7 +11,7 @@ on_grid-requires c κs = let g = c.requires.0 in (g.some, g.short, g.wide, g.nar
 returns-then-not-on_grid : tie.Need-returns-then-not-on_grid
 returns-then-not-on_grid c =
     let g = c.before in
-    record { yes = λ e. true_false (sym e); no = λ e s. true_false (sym s.on ∙ sym g.on_grid.ensures ∙ not-true g.on_grid.result c.if-not-on_grid.true) }
+    record { yes = λ e. true_false (sym e); no = λ e s. true_false (sym s.on ∙ sym g.on_grid.ensures ∙ c.if-not-on_grid.true) }
 
 is_free-requires : tie.Need-is_free-requires
 is_free-requires c κs =
@@ -24,7 +24,7 @@ returns c =
     let d = c.before in
     let g = d.before in
     record {
-      yes = λ e. record { on = sym g.on_grid.ensures ∙ not-false g.on_grid.result d.if-not-on_grid.false; free = c.is_free.ensures.yes e };
+      yes = λ e. record { on = sym g.on_grid.ensures ∙ d.if-not-on_grid.false; free = c.is_free.ensures.yes e };
       no = λ e s. c.is_free.ensures.no e s.free;
     }
 

@@ -57,16 +57,16 @@ overflow_add-result-then-delay-ltminus64 : tie.Need-overflow_add-result-then-del
 overflow_add-result-then-delay-ltminus64 c = omega arith
 
 -- both ends are operations
-ends : (c : tie.Else-n-wide-2) → let a = c.before.before.before.before.before.before.before.args in
+ends : (c : tie.Else-n-wide-2) → let a = c.args in
     (leb a.n (byte_at a.file.now a.at) ≡ false) × (leb a.n (byte_at a.file.now (a.at + 1)) ≡ false)
 ends c =
     let d = c.before.before.before in
-    (rw (← d.before.wide.ensures.0) (lt-leb _ _ d.if1.false), rw (← c.before.wide2.ensures.0) (lt-leb _ _ c.if2.false))
+    (rw (← d.wide.ensures.0) (lt-leb _ _ d.if-n-wide.false), rw (← c.wide-2.ensures.0) (lt-leb _ _ c.if-n-wide-2.false))
 
 -- what the tests of the delay compare
-delay : (c : tie.After-signed-delay) → let a = c.before.before.before.before.before.before.before.before.before.args in
-    to_z w32 (of_z w32 c.signed.result) ≡ signed_byte (byte_at a.file.now (a.at + 2))
-delay c = to_z-of_z w32 c.signed.result (record { sfits = c.signed.type-inv }) ∙ c.signed.ensures
+delay : (c : tie.After-signed-delay) → let a = c.args in
+    to_z w32 (of_z w32 c.signed-delay.result) ≡ signed_byte (byte_at a.file.now (a.at + 2))
+delay c = to_z-of_z w32 c.signed-delay.result (record { sfits = c.signed-delay.type_inv }) ∙ c.signed-delay.ensures
 
 returns-then-delay-ltminus64 : tie.Need-returns-then-delay-ltminus64
 unfolding dep_checks first_refusal
@@ -94,12 +94,12 @@ overflow_add-result-then-file-at-gt15 : tie.Need-overflow_add-result-then-file-a
 overflow_add-result-then-file-at-gt15 c = omega arith
 
 -- the delay is in range
-delay_right : (c : tie.Else-delay-gt64) → let a = c.before.before.before.before.before.before.before.before.before.before.before.args in
+delay_right : (c : tie.Else-delay-gt64) → let a = c.args in
     let z = signed_byte (byte_at a.file.now (a.at + 2)) in
     not (le_z (negsuc 63) z && le_z z (pos 64)) ≡ false
 delay_right c =
     let d = delay c.before.before in
-    rw (outside_range, rw d at c.before.if3.false, rw d at c.if4.false)
+    rw (outside_range, rw d at c.if-delay-ltminus64.false, rw d at c.if-delay-gt64.false)
 
 returns-then-file-at-gt15 : tie.Need-returns-then-file-at-gt15
 unfolding dep_checks first_refusal

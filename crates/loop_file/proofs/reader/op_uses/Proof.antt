@@ -63,13 +63,13 @@ overflow_add-result : tie.Need-overflow_add-result invariant-loop-j decreases-lo
 overflow_add-result c = omega arith
 
 -- after the slot's two tests its check does not fail
-slot_right : (c : tie.Else-slot-gt24 invariant-loop-j decreases-loop-j) → let a = c.before.before.before.before.before.before.before.args in
-    let j = c.before.before.before.before.before.loop.j in
+slot_right : (c : tie.Else-slot-gt24 invariant-loop-j decreases-loop-j) → let a = c.args in
+    let j = c.loop-j.j in
     let slot = byte_at a.file.now (a.first + use_width * j) in
     (leb slot (slot_below a.file.now a.first j) || ltb 24 slot) ≡ false
 slot_right c =
-    let l = c.before.before.before.before.before.loop in
-    rw (← c.before.before.wide.ensures.0, ← l.invariant.1, lt-leb _ _ c.before.if1.false, le-ltb _ _ c.if2.false)
+    let l = c.loop-j in
+    rw (← c.wide-slot.ensures.0, ← l.invariant.1, lt-leb _ _ c.if-slot-below.false, le-ltb _ _ c.if-slot-gt24.false)
 
 returns-then-duration-lt1 : tie.Need-returns-then-duration-lt1 invariant-loop-j decreases-loop-j
 unfolding op_use_checks use_checks first_refusal

@@ -40,11 +40,11 @@ wide-k-requires : tie.Need-wide-k-requires invariant-loop-o decreases-loop-o
 wide-k-requires c κs = tt
 
 -- the uses of the operation lie inside the file
-inside : (c : tie.After-wide-k invariant-loop-o decreases-loop-o) → let a = c.before.before.before.before.before.args in
-    c.before.before.before.loop.first + 2 * c.wide.result ≤ length a.file.now
+inside : (c : tie.After-wide-k invariant-loop-o decreases-loop-o) → let a = c.args in
+    c.loop-o.first + 2 * c.wide-k.result ≤ length a.file.now
 inside c =
-    let a = c.before.before.before.before.before.args in
-    omega (arith, first_use_le a.file.now c.before.before.before.loop.o a.n (omega arith))
+    let a = c.args in
+    omega (arith, first_use_le a.file.now c.loop-o.o a.n (omega arith))
 
 op_uses-one-requires : tie.Need-op_uses-one-requires invariant-loop-o decreases-loop-o
 op_uses-one-requires c κs = (inside c, omega arith)
@@ -56,10 +56,10 @@ enum_told-in_default : tie.Need-enum_told-in_default invariant-loop-o decreases-
 enum_told-in_default c = c.in_default-1.keys2
 
 -- what `op_uses` says, of the operation's own table
-one : (c : tie.After-op_uses-one invariant-loop-o decreases-loop-o) → let a = c.before.before.before.before.before.before.args in
-    let l = c.before.before.before.before.loop in
-    part_of c.op-uses.result ≡ settle (op_use_checks a.file.now (a.start + 2 * first_use a.file.now l.o) (uses_of a.file.now l.o)) 0
-one c = rw (c.before.before.before.before.loop.invariant.1, c.before.wide.ensures.0) at c.op-uses.ensures
+one : (c : tie.After-op_uses-one invariant-loop-o decreases-loop-o) → let a = c.args in
+    let l = c.loop-o in
+    part_of c.op_uses-one.result ≡ settle (op_use_checks a.file.now (a.start + 2 * first_use a.file.now l.o) (uses_of a.file.now l.o)) 0
+one c = rw (c.loop-o.invariant.1, c.wide-k.ensures.0) at c.op_uses-one.ensures
 
 returns-in_default : tie.Need-returns-in_default invariant-loop-o decreases-loop-o
 returns-in_default c =

@@ -49,16 +49,16 @@ source_said c =
 abbrev first : tie.After-outside-2 → tie.After-outside
 first c = c.before.before
 
-target_said : (c : tie.After-outside-2) → let s = (first c).before in not_below s.args.n (target s) ≡ c.outside2.result
+target_said : (c : tie.After-outside-2) → let s = (first c).before in not_below s.args.n (target s) ≡ c.outside-2.result
 target_said c =
     let s = (first c).before in
-    under s.args.n (target s) (omega arith) ∙ sym (rw (last_is s.args.n (omega arith) (omega arith)) at c.outside2.ensures)
+    under s.args.n (target s) (omega arith) ∙ sym (rw (last_is s.args.n (omega arith) (omega arith)) at c.outside-2.ensures)
 
 abbrev second : tie.After-outside-3 → tie.After-outside-2
 second c = c.before.before
 
-delay_said : (c : tie.After-outside-3) → let z = delay (first (second c)).before in not (le_z (negsuc 63) z && le_z z (pos 64)) ≡ c.outside3.result
-delay_said c = outside_range (negsuc 63) (pos 64) (delay (first (second c)).before) ∙ sym c.outside3.ensures
+delay_said : (c : tie.After-outside-3) → let z = delay (first (second c)).before in not (le_z (negsuc 63) z && le_z z (pos 64)) ≡ c.outside-3.result
+delay_said c = outside_range (negsuc 63) (pos 64) (delay (first (second c)).before) ∙ sym c.outside-3.ensures
 
 abbrev third : tie.After-outside-4 → tie.After-outside-3
 third c = c.before.before

@@ -41,7 +41,7 @@ at-ops c = c.before.before
 ops_pass : (c : tie.In-Fine) → let d = lists (at-ops c) in first_refusal (given_checks d) ≡ first_refusal (after_op_size d)
 ops_pass c =
     let d = lists (at-ops c) in
-    sym (whole d) ∙ rest_decides (size_checks oper (length d.ops)) (after_op_size d) c.before.before.size.ensures c.enum_told.given.1
+    sym (whole d) ∙ rest_decides (size_checks oper (length d.ops)) (after_op_size d) c.size-by_ops.ensures c.in-Fine.is
 
 -- ---- the number of dependences
 
@@ -67,7 +67,7 @@ at-deps c = c.before.before
 deps_pass : (c : tie.In-Fine-by_deps) → let d = lists (at-ops (at-deps c)) in first_refusal (given_checks d) ≡ first_refusal (after_sizes d)
 deps_pass c =
     let d = lists (at-ops (at-deps c)) in
-    ops_pass (at-deps c) ∙ rest_decides (size_checks deps (length d.deps)) (after_sizes d) c.before.before.size2.ensures c.enum-told3.given.1
+    ops_pass (at-deps c) ∙ rest_decides (size_checks deps (length d.deps)) (after_sizes d) c.size-by_deps.ensures c.in-Fine-by_deps.is
 
 -- so there are 1 to 64 operations
 few : (c : tie.In-Fine-by_deps) → let n = op_total (lists (at-ops (at-deps c))) in (1 ≤ n) × (n ≤ 64)
@@ -123,7 +123,7 @@ returns-then-uses-all_uses c =
 
 -- their number is right
 number : (c : tie.Else-uses-all_uses) → let d = all c.before.before in length d.uses ≡ use_width * first_given d.ops (op_total d)
-number c = c.if1.false ∙ twice c.before
+number c = c.if-uses-all_uses.false ∙ twice c.before
 
 use_list-each_use-requires : tie.Need-use_list-each_use-requires
 use_list-each_use-requires c κs = omega (arith, number c)

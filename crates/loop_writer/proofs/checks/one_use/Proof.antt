@@ -22,13 +22,13 @@ outside-requires : tie.Need-outside-requires
 outside-requires c κs = omega arith
 
 -- what the tests say of the two numbers
-slot_said : (c : tie.After-outside) → let a = c.before.args in not_between a.below 24 (field_at a.uses.now (use_width * a.u)) ≡ c.outside.result
+slot_said : (c : tie.After-outside) → let a = c.args in not_between a.below 24 (field_at a.uses.now (use_width * a.u)) ≡ c.outside.result
 slot_said c =
-    let a = c.before.args in
+    let a = c.args in
     between a.below 24 (field_at a.uses.now (use_width * a.u)) ∙ sym (rw (above_is a.below (omega arith)) at c.outside.ensures)
 
-duration_said : (c : tie.After-outside-2) → let a = c.before.before.before.args in not_between 0 16 (field_at a.uses.now (use_width * a.u + 1)) ≡ c.outside2.result
-duration_said c = let a = c.before.before.before.args in between 0 16 (field_at a.uses.now (use_width * a.u + 1)) ∙ sym c.outside2.ensures
+duration_said : (c : tie.After-outside-2) → let a = c.args in not_between 0 16 (field_at a.uses.now (use_width * a.u + 1)) ≡ c.outside-2.result
+duration_said c = let a = c.args in between 0 16 (field_at a.uses.now (use_width * a.u + 1)) ∙ sym c.outside-2.ensures
 
 returns-then-outside : tie.Need-returns-then-outside
 unfolding use_checks first_refusal

@@ -16,11 +16,11 @@ outside-requires : tie.Need-outside-requires
 outside-requires c κs = omega arith
 
 -- what the tests say of the two numbers
-latency_said : (c : tie.After-outside) → let a = c.before.args in not_up_to 64 (field_at a.ops.now (2 * a.o)) ≡ c.outside.result
-latency_said c = let a = c.before.args in up_to 64 (field_at a.ops.now (2 * a.o)) ∙ sym c.outside.ensures
+latency_said : (c : tie.After-outside) → let a = c.args in not_up_to 64 (field_at a.ops.now (2 * a.o)) ≡ c.outside.result
+latency_said c = let a = c.args in up_to 64 (field_at a.ops.now (2 * a.o)) ∙ sym c.outside.ensures
 
-uses_said : (c : tie.After-outside-2) → let a = c.before.before.before.args in not_up_to 4 (field_at a.ops.now (2 * a.o + 1)) ≡ c.outside2.result
-uses_said c = let a = c.before.before.before.args in up_to 4 (field_at a.ops.now (2 * a.o + 1)) ∙ sym c.outside2.ensures
+uses_said : (c : tie.After-outside-2) → let a = c.args in not_up_to 4 (field_at a.ops.now (2 * a.o + 1)) ≡ c.outside-2.result
+uses_said c = let a = c.args in up_to 4 (field_at a.ops.now (2 * a.o + 1)) ∙ sym c.outside-2.ensures
 
 returns-then-outside : tie.Need-returns-then-outside
 unfolding op_checks first_refusal

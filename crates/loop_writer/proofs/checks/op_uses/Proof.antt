@@ -37,12 +37,12 @@ one_use-one-requires : tie.Need-one_use-one-requires invariant-loop-j decreases-
 one_use-one-requires c κs = omega arith
 
 -- what the check of a use says
-said : (c : tie.After-one_use-one invariant-loop-j decreases-loop-j) → let a = c.before.before.before.args in
-    refusal_of c.one-use.result ≡ first_refusal (table a.uses.now a.first c.before.before.loop.j)
+said : (c : tie.After-one_use-one invariant-loop-j decreases-loop-j) → let a = c.args in
+    refusal_of c.one_use-one.result ≡ first_refusal (table a.uses.now a.first c.loop-j.j)
 said c =
-    let a = c.before.before.before.args in
-    let l = c.before.before.loop in
-    c.one-use.ensures ∙ ap (λ (b : ℕ). first_refusal (use_given_checks a.uses.now b (a.first + l.j))) l.invariant.1
+    let a = c.args in
+    let l = c.loop-j in
+    c.one_use-one.ensures ∙ ap (λ (b : ℕ). first_refusal (use_given_checks a.uses.now b (a.first + l.j))) l.invariant.1
 
 enum_told-1 : tie.Need-enum_told-1 invariant-loop-j decreases-loop-j
 enum_told-1 c = c.in-Fine-1.keys1

@@ -39,21 +39,21 @@ natural-k-requires : tie.Need-natural-k-requires invariant-loop-o decreases-loop
 natural-k-requires c κs = omega arith
 
 -- the uses of an operation stand before those of the operations after it
-inside : (c : tie.After-natural-k invariant-loop-o decreases-loop-o) → let a = c.before.before.before.args in c.before.before.loop.first + c.natural.result ≤ first_given a.ops.now a.n
+inside : (c : tie.After-natural-k invariant-loop-o decreases-loop-o) → let a = c.args in c.loop-o.first + c.natural-k.result ≤ first_given a.ops.now a.n
 inside c =
-    let a = c.before.before.before.args in
-    let l = c.before.before.loop in
-    omega (arith, first_le a.ops.now l.o a.n (omega arith), c.natural.ensures, l.invariant.1)
+    let a = c.args in
+    let l = c.loop-o in
+    omega (arith, first_le a.ops.now l.o a.n (omega arith), c.natural-k.ensures, l.invariant.1)
 
 op_uses-one-requires : tie.Need-op_uses-one-requires invariant-loop-o decreases-loop-o
 op_uses-one-requires c κs = omega (arith, inside c)
 
 -- what the check of its uses says
-said : (c : tie.After-op_uses-one invariant-loop-o decreases-loop-o) → let a = c.before.before.before.before.args in
-    refusal_of c.op-uses.result ≡ first_refusal (table a.ops.now a.uses.now c.before.before.before.loop.o)
+said : (c : tie.After-op_uses-one invariant-loop-o decreases-loop-o) → let a = c.args in
+    refusal_of c.op_uses-one.result ≡ first_refusal (table a.ops.now a.uses.now c.loop-o.o)
 said c =
-    let us = c.before.before.before.before.args.uses.now in
-    c.op-uses.ensures ∙ ap₂ (λ (u n : ℕ). first_refusal (op_uses_given_checks us u n)) c.before.before.before.loop.invariant.1 c.before.natural.ensures
+    let us = c.args.uses.now in
+    c.op_uses-one.ensures ∙ ap₂ (λ (u n : ℕ). first_refusal (op_uses_given_checks us u n)) c.loop-o.invariant.1 c.natural-k.ensures
 
 enum_told-1 : tie.Need-enum_told-1 invariant-loop-o decreases-loop-o
 enum_told-1 c = c.in-Fine-1.keys1

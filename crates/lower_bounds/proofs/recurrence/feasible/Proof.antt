@@ -46,7 +46,7 @@ returns-then-not-changed : tie.Need-returns-then-not-changed invariant-loop-r de
 returns-then-not-changed c =
     let a = c.before.before.before.before in
     record {
-      met = λ e. round_calm _ (loop_ok (start a)) _ _ _ _ _ (not-true _ c.if-not-changed.true) a.loop-r.invariant.0 c.round-changed.ensures;
+      met = λ e. round_calm _ (loop_ok (start a)) _ _ _ _ _ (c.if-not-changed.true) a.loop-r.invariant.0 c.round-changed.ensures;
       unmet = λ e. absurd (true≢false e);
     }
 
@@ -59,7 +59,7 @@ loop-r-smaller c = omega arith
 loop-r-preserved : tie.Need-loop-r-preserved invariant-loop-r decreases-loop-r
 loop-r-preserved c =
     let a = c.before.before.before.before in
-    round_more _ (loop_ok (start a)) _ _ _ _ _ (not-false _ c.if-not-changed.false) a.loop-r.invariant.0 c.round-changed.ensures
+    round_more _ (loop_ok (start a)) _ _ _ _ _ (c.if-not-changed.false) a.loop-r.invariant.0 c.round-changed.ensures
 
 returns : tie.Need-returns invariant-loop-r decreases-loop-r
 returns c = record { met = λ e. absurd (true≢false (sym e)); unmet = λ e. ⊎_elim (λ o. absurd (omega arith)) (λ w. w) c.loop-r.invariant.1 }

@@ -22,10 +22,10 @@ feasible-requires : tie.Need-feasible-requires invariant-loop-lo decreases-loop-
 feasible-requires c κs = (c.requires, omega arith)
 
 returns-then-not-feasible : tie.Need-returns-then-not-feasible invariant-loop-lo decreases-loop-lo
-returns-then-not-feasible c = top_no _ (loop_ok c.before) _ (not-true _ c.if-not-feasible.true) c.feasible.ensures
+returns-then-not-feasible c = top_no _ (loop_ok c.before) _ (c.if-not-feasible.true) c.feasible.ensures
 
 loop-lo-init : tie.Need-loop-lo-init invariant-loop-lo decreases-loop-lo
-loop-lo-init c = top_yes _ (loop_ok c.before) _ (not-false _ c.if-not-feasible.false) c.feasible.ensures
+loop-lo-init c = top_yes _ (loop_ok c.before) _ (c.if-not-feasible.false) c.feasible.ensures
 
 overflow_add-mid : tie.Need-overflow_add-mid invariant-loop-lo decreases-loop-lo
 overflow_add-mid c = omega arith

@@ -23,13 +23,13 @@ abbrev called : tie.Start → model.Call
 called s = call_of s.args.kind s.args.a s.args.b
 
 is_place : (c : tie.Then-kind-eq1) → let s = start c.before in called s ≡ model.place s.args.a s.args.b
-is_place c = kind_place _ _ _ c.if1.true
+is_place c = kind_place _ _ _ c.if-kind-eq1.true
 
 is_force : (c : tie.Then-kind-eq2) → let s = start c.before.before in called s ≡ model.force s.args.a s.args.b
-is_force c = kind_force _ _ _ c.before.if1.false c.if2.true
+is_force c = kind_force _ _ _ c.if-kind-eq1.false c.if-kind-eq2.true
 
 is_remove : (c : tie.Then-kind-eq3) → let s = start c.before.before.before in called s ≡ model.remove s.args.a
-is_remove c = let e = c.before in kind_remove _ _ _ e.before.if1.false e.if2.false c.if3.true
+is_remove c = let e = c.before in kind_remove _ _ _ e.if-kind-eq1.false e.if-kind-eq2.false c.if-kind-eq3.true
 
 is_checkpoint : (c : tie.Then-kind-eq4) → called (start c.before.before.before.before) ≡ model.checkpoint
 is_checkpoint c = let e = c.before in let f = e.before in kind_checkpoint _ _ _ f.if-kind-eq1.false f.if-kind-eq2.false e.if-kind-eq3.false c.if-kind-eq4.true
@@ -46,7 +46,7 @@ is_rollback c =
     let e = c.before in
     let f = e.before in
     let g = f.before in
-    kind_rollback _ _ _ g.before.if1.false g.if2.false f.if3.false e.if4.false c.if6.false
+    kind_rollback _ _ _ g.if-kind-eq1.false g.if-kind-eq2.false f.if-kind-eq3.false e.if-kind-eq4.false c.if-kind-ne6.false
 
 -- ---- starts and rows
 

@@ -60,7 +60,7 @@ test c =
     taken_at single (used_by a.interval (op_at (loop_of a.file.now) a.a) a.from) false a.interval a.to a.k
 
 -- the call says it of use j
-told : (c : tie.After-shares invariant-loop-j decreases-loop-j) → let h = c.before.before in c.shares.result ≡ test h (use_at (op h) h.loop.j)
+told : (c : tie.After-shares invariant-loop-j decreases-loop-j) → let h = c.before.before in c.shares.result ≡ test h (use_at (op h) h.loop-j.j)
 told c = c.shares.ensures ∙ ap (test c.before.before) (here c.before).is
 
 slot-requires : tie.Need-slot-requires invariant-loop-j decreases-loop-j

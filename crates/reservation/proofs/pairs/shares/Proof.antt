@@ -23,11 +23,11 @@ covers_cycle-requires : tie.Need-covers_cycle-requires
 covers_cycle-requires c κs = search rules
 
 returns-then-not-covers_cycle : tie.Need-returns-then-not-covers_cycle
-returns-then-not-covers_cycle c = let t = c.before in rw (sym t.covers_cycle.ensures ∙ not-true t.covers_cycle.result c.if-not-covers_cycle.true)
+returns-then-not-covers_cycle c = let t = c.before in rw (sym t.covers_cycle.ensures ∙ c.if-not-covers_cycle.true)
 
 -- past the test the use covers the cycle
 covered : (c : tie.Else-not-covers_cycle) → let s = start c.before in covers s.args.k (use-of s) ≡ true
-covered c = let t = c.before in sym t.covers-cycle.ensures ∙ not-false t.covers-cycle.result c.if1.false
+covered c = let t = c.before in sym t.covers_cycle.ensures ∙ c.if-not-covers_cycle.false
 
 slot-requires : tie.Need-slot-requires
 slot-requires c κs = search rules

@@ -32,7 +32,7 @@ covers_cycle-requires : tie.Need-covers_cycle-requires
 covers_cycle-requires c κs = search rules
 
 returns-then-not-covers_cycle : tie.Need-returns-then-not-covers_cycle
-returns-then-not-covers_cycle c = let t = c.before in rw (sym t.covers_cycle.ensures ∙ not-true t.covers_cycle.result c.if-not-covers_cycle.true)
+returns-then-not-covers_cycle c = let t = c.before in rw (sym t.covers_cycle.ensures ∙ c.if-not-covers_cycle.true)
 
 -- past the first test the use covers the cycle
 covered : (c : tie.Else-not-covers_cycle) → let s = start c.before in ((use-of s).offset ≤ s.args.k) × (s.args.k < (use-of s).offset + (use-of s).duration)
@@ -40,7 +40,7 @@ covered c =
     let t = c.before in
     let s = start t in
     let u = use-of s in
-    let e : covers s.args.k u ≡ true = sym t.covers-cycle.ensures ∙ not-false t.covers-cycle.result c.if1.false in
+    let e : covers s.args.k u ≡ true = sym t.covers_cycle.ensures ∙ c.if-not-covers_cycle.false in
     let begun = leb u.offset s.args.k in
     let going = ltb s.args.k (u.offset + u.duration) in
     (leb-true _ _ (and_left begun going e), ltb-true _ _ (and_right begun going e))

@@ -44,7 +44,7 @@ entry c = start (sweeping c.before).before
 -- what is then known
 come : (c : tie.After-write_list) → let a = (entry c).args in
     let s = sweeping c.before in
-    Come a.file.now a.n a.resource a.recurrence s.larger.result a.cap a.horizon a.budget a.list.now a.rows.now s.sweep-swept.last.1.0 c.write-list.new.0 s.sweep-swept.last.1.1.0
+    Come a.file.now a.n a.resource a.recurrence s.larger.result a.cap a.horizon a.budget a.list.now a.rows.now s.sweep-swept.last.1.0 c.write_list.new.0 s.sweep-swept.last.1.1.0
     s.sweep-swept.result
 come c =
     let s = sweeping c.before in
@@ -53,7 +53,7 @@ come c =
       within = s.sweep-swept.ensures.1.1;
       least_is = s.larger.ensures;
       wide = omega arith;
-      list_is = rw c.before.kept.ensures at c.write-list.ensures;
+      list_is = rw c.kept.ensures at c.write_list.ensures;
       rows_are = s.sweep-swept.ensures.1.0 ∙ (clearing s.before).clear_rows.ensures;
     }
 

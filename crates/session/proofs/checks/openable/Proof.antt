@@ -49,7 +49,7 @@ accepted_decides : (c : tie.In-Accepted) → let a = (start c).args in first_ref
 unfolding open_checks
 accepted_decides c =
     let f = (start c).args.file.now in
-    refusal_append (file_checks f) (byInterval (start c)) (read_accepted f _ _ _ (sym (ap reading_of c.enum_told.given.1) ∙ c.before.before.read.ensures)).file
+    refusal_append (file_checks f) (byInterval (start c)) (read_accepted f _ _ _ (sym (ap reading_of c.in-Accepted.is) ∙ c.read-reading.ensures)).file
 
 range-by_interval-requires : tie.Need-range-by_interval-requires
 range-by_interval-requires c κs = omega arith
@@ -68,12 +68,12 @@ returns-in_default-by_interval c =
 
 -- ---- once the interval passes
 
-interval_decides : (c : tie.In-Fine) → let s = start c.before.before.before in
+interval_decides : (c : tie.In-Fine) → let s = start c.before.before in
     first_refusal (open_checks s.args.file.now s.args.interval s.args.horizon s.args.rows) ≡ first_refusal (byHorizon s)
 interval_decides c =
-    let r = c.before.before in
+    let r = c.before in
     let s = start r.before in
-    accepted_decides r.before ∙ rest_decides (range 1 4096 s.args.interval ∷ []) (byHorizon s) r.range.ensures c.enum-told3.given.1
+    accepted_decides r.before ∙ rest_decides (range 1 4096 s.args.interval ∷ []) (byHorizon s) r.range-by_interval.ensures c.in-Fine.is
 
 range-by_horizon-requires : tie.Need-range-by_horizon-requires
 range-by_horizon-requires c κs = omega arith
