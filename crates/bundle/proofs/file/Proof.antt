@@ -12,10 +12,10 @@ count-n-requires c κs = search rules
 slice_bounds-result-count : tie.Need-slice_bounds-result-count
 slice_bounds-result-count c = search rules
 
-slice_bounds-result-start : tie.Need-slice-bounds-result-start
+slice_bounds-result-start : tie.Need-slice_bounds-result-start
 slice_bounds-result-start c = search rules
 
-slice_bounds-result-end : tie.Need-slice-bounds-result-end
+slice_bounds-result-end : tie.Need-slice_bounds-result-end
 slice_bounds-result-end c = search rules
 
 returns-then-n-i : tie.Need-returns-then-n-i
@@ -48,10 +48,10 @@ overflow_add-end c = search rules
 slice_bounds-result-count-2 : tie.Need-slice_bounds-result-count-2
 slice_bounds-result-count-2 c = search rules
 
-slice_bounds-result-start-2 : tie.Need-slice-bounds-result-start-2
+slice_bounds-result-start-2 : tie.Need-slice_bounds-result-start-2
 slice_bounds-result-start-2 c = search rules
 
-slice_bounds-result-end-2 : tie.Need-slice-bounds-result-end-2
+slice_bounds-result-end-2 : tie.Need-slice_bounds-result-end-2
 slice_bounds-result-end-2 c =
     let a = c.args in
     omega (arith, entry_at a.bundle.now a.i (omega arith))

@@ -20,10 +20,10 @@ enum_told-1 c = omega arith
 slice_bounds-result-count : tie.Need-slice_bounds-result-count
 slice_bounds-result-count c = omega arith
 
-slice_bounds-result-start : tie.Need-slice-bounds-result-start
+slice_bounds-result-start : tie.Need-slice_bounds-result-start
 slice_bounds-result-start c = omega arith
 
-slice_bounds-result-end : tie.Need-slice-bounds-result-end
+slice_bounds-result-end : tie.Need-slice_bounds-result-end
 slice_bounds-result-end c = omega arith
 
 returns-in_default : tie.Need-returns-in_default
@@ -57,10 +57,10 @@ overflow_add-end c = omega (arith, spanned c)
 slice_bounds-result-count-2 : tie.Need-slice_bounds-result-count-2
 slice_bounds-result-count-2 c = omega arith
 
-slice_bounds-result-start-2 : tie.Need-slice-bounds-result-start-2
+slice_bounds-result-start-2 : tie.Need-slice_bounds-result-start-2
 slice_bounds-result-start-2 c = omega arith
 
-slice_bounds-result-end-2 : tie.Need-slice-bounds-result-end-2
+slice_bounds-result-end-2 : tie.Need-slice_bounds-result-end-2
 slice_bounds-result-end-2 c = omega (arith, spanned c)
 
 returns : tie.Need-returns

@@ -16,7 +16,7 @@ loop-i-init c = search rules
 offset_bounds-i : tie.Need-offset_bounds-i invariant-loop-i decreases-loop-i
 offset_bounds-i c = search rules
 
-bounds-i : tie.Need-array-read-both invariant-loop-i decreases-loop-i
+bounds-i : tie.Need-bounds-i invariant-loop-i decreases-loop-i
 bounds-i c = search rules
 
 two_bytes-requires : tie.Need-two_bytes-requires invariant-loop-i decreases-loop-i

@@ -22,10 +22,10 @@ find-end-requires c κs = omega arith
 slice_bounds-read_call-count : tie.Need-slice_bounds-read_call-count invariant-loop-at decreases-loop-at
 slice_bounds-read_call-count c = omega arith
 
-slice_bounds-read_call-start : tie.Need-slice-bounds-read-call-start invariant-loop-at decreases-loop-at
+slice_bounds-read_call-start : tie.Need-slice_bounds-read_call-start invariant-loop-at decreases-loop-at
 slice_bounds-read_call-start c = omega arith
 
-slice_bounds-read_call-end : tie.Need-slice-bounds-read-call-end invariant-loop-at decreases-loop-at
+slice_bounds-read_call-end : tie.Need-slice_bounds-read_call-end invariant-loop-at decreases-loop-at
 slice_bounds-read_call-end c = omega arith
 
 read_call-c-requires : tie.Need-read_call-c-requires invariant-loop-at decreases-loop-at

@@ -20,10 +20,10 @@ find-end-requires c κs = omega arith
 slice_bounds-read_call-count : tie.Need-slice_bounds-read_call-count invariant-loop-at decreases-loop-at
 slice_bounds-read_call-count c = omega arith
 
-slice_bounds-read_call-start : tie.Need-slice-bounds-read-call-start invariant-loop-at decreases-loop-at
+slice_bounds-read_call-start : tie.Need-slice_bounds-read_call-start invariant-loop-at decreases-loop-at
 slice_bounds-read_call-start c = omega arith
 
-slice_bounds-read_call-end : tie.Need-slice-bounds-read-call-end invariant-loop-at decreases-loop-at
+slice_bounds-read_call-end : tie.Need-slice_bounds-read_call-end invariant-loop-at decreases-loop-at
 slice_bounds-read_call-end c = omega arith
 
 read_call-c-requires : tie.Need-read_call-c-requires invariant-loop-at decreases-loop-at
@@ -32,19 +32,19 @@ read_call-c-requires c κs = tt
 slice_bounds-scene-count : tie.Need-slice_bounds-scene-count invariant-loop-at decreases-loop-at
 slice_bounds-scene-count c = omega arith
 
-slice_bounds-scene-start : tie.Need-slice-bounds-scene-start invariant-loop-at decreases-loop-at
+slice_bounds-scene-start : tie.Need-slice_bounds-scene-start invariant-loop-at decreases-loop-at
 slice_bounds-scene-start c = omega arith
 
-slice_bounds-scene-end : tie.Need-slice-bounds-scene-end invariant-loop-at decreases-loop-at
+slice_bounds-scene-end : tie.Need-slice_bounds-scene-end invariant-loop-at decreases-loop-at
 slice_bounds-scene-end c = omega arith
 
 slice_bounds-scene-count-then-c-eq0 : tie.Need-slice_bounds-scene-count-then-c-eq0 invariant-loop-at decreases-loop-at
 slice_bounds-scene-count-then-c-eq0 c = omega arith
 
-slice_bounds-scene-start-then-c-eq0 : tie.Need-slice-bounds-scene-start-2 invariant-loop-at decreases-loop-at
+slice_bounds-scene-start-then-c-eq0 : tie.Need-slice_bounds-scene-start-then-c-eq0 invariant-loop-at decreases-loop-at
 slice_bounds-scene-start-then-c-eq0 c = omega arith
 
-slice_bounds-scene-end-then-c-eq0 : tie.Need-slice-bounds-scene-end-2 invariant-loop-at decreases-loop-at
+slice_bounds-scene-end-then-c-eq0 : tie.Need-slice_bounds-scene-end-then-c-eq0 invariant-loop-at decreases-loop-at
 slice_bounds-scene-end-then-c-eq0 c = omega arith
 
 scene-requires : tie.Need-scene-requires invariant-loop-at decreases-loop-at

@@ -24,14 +24,14 @@ returns-then-stage : tie.Need-returns-then-stage
 returns-then-stage c =
     let s = c.before in
     let a = (start s).args in
-    rw (ne_eqb (stage a.interval a.other) (stage a.interval a.own_val) (λ e. c.if-stage.true (s.stage.ensures ∙ e ∙ sym s.stage-2.ensures)))
+    rw (ne_eqb (stage a.interval a.other) (stage a.interval a.own) (λ e. c.if-stage.true (s.stage.ensures ∙ e ∙ sym s.stage-2.ensures)))
 
 -- once the stages are the same
-same_stage : (c : tie.Else-stage) → let a = (start c.before).args in eqb (stage a.interval a.other) (stage a.interval a.own_val) ≡ true
+same_stage : (c : tie.Else-stage) → let a = (start c.before).args in eqb (stage a.interval a.other) (stage a.interval a.own) ≡ true
 same_stage c =
     let s = c.before in
     let a = (start s).args in
-    eq-eqb (stage a.interval a.other) (stage a.interval a.own_val) (sym s.stage.ensures ∙ c.if-stage.false ∙ s.stage-2.ensures)
+    eq-eqb (stage a.interval a.other) (stage a.interval a.own) (sym s.stage.ensures ∙ c.if-stage.false ∙ s.stage-2.ensures)
 
 cycle-a-requires : tie.Need-cycle-a-requires
 cycle-a-requires c κs = search rules
@@ -44,8 +44,8 @@ returns-then-a-b c =
     let d = c.before in
     let e = d.before.before in
     let a = (start e.before).args in
-    let q : cycle a.interval a.other ≡ cycle a.interval a.own_val = sym d.cycle-a.ensures ∙ c.if-a-b.true ∙ d.cycle-b.ensures in
-    rw (same_stage e, q, le-ltb (cycle a.interval a.own_val) (cycle a.interval a.own_val) (le_refl (cycle a.interval a.own_val)), eq-eqb (cycle a.interval a.own_val) (cycle a.interval a.own_val) refl)
+    let q : cycle a.interval a.other ≡ cycle a.interval a.own = sym d.cycle-a.ensures ∙ c.if-a-b.true ∙ d.cycle-b.ensures in
+    rw (same_stage e, q, le-ltb (cycle a.interval a.own) (cycle a.interval a.own) (le_refl (cycle a.interval a.own)), eq-eqb (cycle a.interval a.own) (cycle a.interval a.own) refl)
 
 returns : tie.Need-returns
 returns c =
@@ -53,7 +53,7 @@ returns c =
     let e = d.before.before in
     let a = (start e.before).args in
     let x : ℕ = cycle a.interval a.other in
-    let y : ℕ = cycle a.interval a.own_val in
+    let y : ℕ = cycle a.interval a.own in
     ap₂ ltb d.cycle-a.ensures d.cycle-b.ensures
     ∙ rw (same_stage e, ne_eqb x y (λ q. c.if-a-b.false (d.cycle-a.ensures ∙ q ∙ sym d.cycle-b.ensures))) (sym (or-false (ltb x y)))
 

@@ -18,10 +18,10 @@ find-end-requires c κs = omega arith
 slice_bounds-replay_line-count : tie.Need-slice_bounds-replay_line-count invariant-loop-at decreases-loop-at
 slice_bounds-replay_line-count c = omega arith
 
-slice_bounds-replay_line-start : tie.Need-slice-bounds-replay-line-start invariant-loop-at decreases-loop-at
+slice_bounds-replay_line-start : tie.Need-slice_bounds-replay_line-start invariant-loop-at decreases-loop-at
 slice_bounds-replay_line-start c = omega arith
 
-slice_bounds-replay_line-end : tie.Need-slice-bounds-replay-line-end invariant-loop-at decreases-loop-at
+slice_bounds-replay_line-end : tie.Need-slice_bounds-replay_line-end invariant-loop-at decreases-loop-at
 slice_bounds-replay_line-end c = omega arith
 
 replay_line-requires : tie.Need-replay_line-requires invariant-loop-at decreases-loop-at

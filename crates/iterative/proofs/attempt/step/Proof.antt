@@ -45,7 +45,7 @@ overflow_cast-again c = omega arith
 offset_bounds-again-op-2 : tie.Need-offset_bounds-again-op-2
 offset_bounds-again-op-2 c = omega (arith, inside (entry c))
 
-bounds-again-op-2 : tie.Need-element-write-preserved
+bounds-again-op-2 : tie.Need-bounds-again-op-2
 bounds-again-op-2 c = inside (entry c)
 
 shape_of-rows : tie.Need-shape_of-rows

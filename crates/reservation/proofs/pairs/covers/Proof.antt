@@ -97,8 +97,8 @@ returns-then-row-interval c =
     let i = c.before.before.before.before.before in
     let s = start i in
     let g = s.args in
-    sym (pass_covers g.interval (omega (arith, s.requires)) (op i) (op_ok i) g.start g.slot- g.row s.requires.3 i.loop-j.j (inside i)
-    (pass_on g.interval g.start g.slot- g.row (at i) (use_at (op i) i.loop-j.j) (is_use i)
+    sym (pass_covers g.interval (omega (arith, s.requires)) (op i) (op_ok i) g.start g.slot_ g.row s.requires.3 i.loop-j.j (inside i)
+    (pass_on g.interval g.start g.slot_ g.row (at i) (use_at (op i) i.loop-j.j) (is_use i)
     c.slot.result c.slot.ensures
     c.offset.result c.duration.result c.offset.ensures c.duration.ensures
     c.if-slot-slot_.true c.if-row-interval.true))
@@ -117,9 +117,9 @@ loop-j-preserved c =
       omega arith,
       below_more _ i.loop-j.j i.loop-j.invariant.1
           (⊎_elim
-          (λ w. pass_over g.interval g.start g.slot- g.row (at i) (use_at (op i) i.loop-j.j) (is_use i) x.result x.ensures
+          (λ w. pass_over g.interval g.start g.slot_ g.row (at i) (use_at (op i) i.loop-j.j) (is_use i) x.result x.ensures
           w.1.result w.2.result w.1.ensures w.2.ensures w.0.taken w.3.left)
-          (λ w. pass_away g.interval g.start g.slot- g.row (at i) (use_at (op i) i.loop-j.j) (is_use i) x.result x.ensures w.left)
+          (λ w. pass_away g.interval g.start g.slot_ g.row (at i) (use_at (op i) i.loop-j.j) (is_use i) x.result x.ensures w.left)
           c.if-slot-slot_.branch-raw),
     )
 
@@ -129,7 +129,7 @@ returns c =
     let s = h.before.before.before.before in
     let g = s.args in
     let f = g.file.now in
-    sym (none_covers g.interval (omega (arith, s.requires)) (op_at (loop_of f) g.op) ((accepted_ok f s.requires.0).op_ok g.op s.requires.1) g.start g.slot- g.row
+    sym (none_covers g.interval (omega (arith, s.requires)) (op_at (loop_of f) g.op) ((accepted_ok f s.requires.0).op_ok g.op s.requires.1) g.start g.slot_ g.row
     s.requires.3 (λ j l. h.loop-j.invariant.1 j (omega (arith, h.use_count-n.ensures))))
 
 pub covers_spec : {M : Type 1} → statement M

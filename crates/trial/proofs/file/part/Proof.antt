@@ -7,10 +7,10 @@ use Rattle.trial.proofs.file.part.Tie as tie
 slice_bounds-result-count : tie.Need-slice_bounds-result-count
 slice_bounds-result-count c = omega arith
 
-slice_bounds-result-start : tie.Need-slice-bounds-result-start
+slice_bounds-result-start : tie.Need-slice_bounds-result-start
 slice_bounds-result-start c = omega arith
 
-slice_bounds-result-end : tie.Need-slice-bounds-result-end
+slice_bounds-result-end : tie.Need-slice_bounds-result-end
 slice_bounds-result-end c = omega arith
 
 returns-then-len-bytes : tie.Need-returns-then-len-bytes

@@ -12,7 +12,7 @@ decreases-loop-i file₀ ops uses deps i₀ file i = 26 - i
 loop-i-init : tie.Need-loop-i-init invariant-loop-i decreases-loop-i
 loop-i-init c = tt
 
-bounds-i : tie.Need-array-read-file invariant-loop-i decreases-loop-i
+bounds-i : tie.Need-bounds-i invariant-loop-i decreases-loop-i
 bounds-i c = omega arith
 
 bounds-file-i : tie.Need-bounds-file-i invariant-loop-i decreases-loop-i

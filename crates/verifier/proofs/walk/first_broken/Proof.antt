@@ -70,7 +70,7 @@ to_in c = omega (arith, c.target-to.ensures, ((ok c.before.before).dep_ok _ (kno
 offset_bounds-starts-from : tie.Need-offset_bounds-starts-from invariant-loop-e decreases-loop-e
 offset_bounds-starts-from c = omega (arith, from_in c, (ok c.before.before).few)
 
-bounds-starts-from : tie.Need-shared-slice-read-dep-init invariant-loop-e decreases-loop-e
+bounds-starts-from : tie.Need-bounds-starts-from invariant-loop-e decreases-loop-e
 bounds-starts-from c = omega (arith, from_in c.before, (start c.before.before.before).requires.1.all)
 
 overflow_cast-starts : tie.Need-overflow_cast-starts invariant-loop-e decreases-loop-e
@@ -79,7 +79,7 @@ overflow_cast-starts c = omega (arith, (start c.before.before.before).requires.1
 offset_bounds-starts-to : tie.Need-offset_bounds-starts-to invariant-loop-e decreases-loop-e
 offset_bounds-starts-to c = omega (arith, to_in c.before, (ok c.before.before.before).few)
 
-bounds-starts-to : tie.Need-shared-slice-read-dep-init-2 invariant-loop-e decreases-loop-e
+bounds-starts-to : tie.Need-bounds-starts-to invariant-loop-e decreases-loop-e
 bounds-starts-to c = omega (arith, to_in c.before.before, (start c.before.before.before.before).requires.1.all)
 
 overflow_cast-starts-in-loop-e : tie.Need-overflow_cast-starts-in-loop-e invariant-loop-e decreases-loop-e
