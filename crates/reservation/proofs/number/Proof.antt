@@ -14,7 +14,7 @@ enum_known-p : tie.Need-enum_known-p
 enum_known-p c = search rules
 
 -- cycle and slot are small
-small : (c : tie.In-Taken) → let w = (c.in-Taken.k, (c.in-Taken.slot, tt)) in (w.0 < 16) × (w.1.0 ≤ 24)
+small : (c : tie.In-Taken) → (c.in-Taken.k < 16) × (c.in-Taken.slot ≤ 24)
 small c = c.requires.small _ _ (ap place_of c.in-Taken.is)
 
 overflow_mul-result : tie.Need-overflow_mul-result

@@ -61,7 +61,7 @@ loop-p-preserved c =
     let i = c.before.before.before in
     let a = (start i).args in
     let test = earlier a.interval a.starts.now a.op in
-    ⊎_elim (λ w. omega (arith, count_yes test i.loop-p.p (told c.before ∙ w.0.taken))) (λ w. omega (arith, count_no test i.loop-p.p (told c.before ∙ w.0.left))) c.if-comes_before.branch-raw
+    ⊎_elim (λ w. omega (arith, count_yes test i.loop-p.p (told c.before ∙ w.if-comes_before.true))) (λ w. omega (arith, count_no test i.loop-p.p (told c.before ∙ w.if-comes_before.false))) c.if-comes_before.branch-raw
 
 returns : tie.Need-returns invariant-loop-p decreases-loop-p
 unfolding order_of

@@ -104,12 +104,12 @@ module _ (c : tie.In-Fine-third) where
   two = c.before.before.before
 
   abbrev one : tie.In-Fine
-  one = two.before.before.before.before.before
+  one = two.before.before.before
 
-  ends : end_at (f3 c.before) ≡ 26 + one.before.first.given.0.0 + two.before.second.given.0.0 + c.in-Fine-third.deps
+  ends : end_at (f3 c.before) ≡ 26 + one.in-Fine.oper + two.in-Fine-second.uses + c.in-Fine-third.deps
   ends = omega (arith, (got_first one).is, (got_second two).is, (got_third c).is)
 
-  small : one.before.first.given.0.0 + two.before.second.given.0.0 + c.in-Fine-third.deps < 196608
+  small : one.in-Fine.oper + two.in-Fine-second.uses + c.in-Fine-third.deps < 196608
   small = omega (arith, (got_first one).small, (got_second two).small, (got_third c).small)
 
 -- ---- the needs

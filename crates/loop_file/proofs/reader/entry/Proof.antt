@@ -1,5 +1,5 @@
 -- `reader::entry` meets its contract: at each return the tests on the way settle the table of checks. Assumes nothing.
-use mathlib.Core.Path.{◌≡◌}
+use mathlib.Core.Path.{◌≡◌, sym, ◌∙◌}
 use mathlib.Core.Bool.{not, ◌||◌}
 use mathlib.Core.List.{List, [], ◌∷◌}
 use Prim.Native.Nat.{◌+◌, ◌/◌, ◌%◌}
@@ -51,7 +51,7 @@ module _ (c : tie.After-word-n) where
 
   late : settle rest c.word-n.result ≡ settle (entry_checks a.args.file.now (section_as a.args.at (four_of a.args.tag.now) a.args.width a.args.least a.args.most) a.args.start) (word_at a.args.file.now (a.args.at + 6))
   unfolding first_refusal entry_checks
-  late = rw (← c.tag_is.ensures, c.if-not-tag_is.false, ← c.word.ensures.0, eq-eqb _ _ c.if-word-start.false, ← c.word-n.ensures.0)
+  late = rw (sym c.tag_is.ensures ∙ c.if-not-tag_is.false, ← c.word.ensures.0, eq-eqb _ _ c.if-word-start.false, ← c.word-n.ensures.0)
 
 returns-then-n-width-ne0 : tie.Need-returns-then-n-width-ne0
 unfolding first_refusal

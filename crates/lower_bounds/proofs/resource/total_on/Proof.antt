@@ -56,8 +56,8 @@ loop-u-preserved c =
     let u = c.loop-u.u in
     let e = c.slot.ensures in
     ⊎_elim
-    (λ w. omega (arith, total_on_lem l s.args.s u (sym e ∙ w.0.taken)))
-    (λ w. omega (arith, total_off l s.args.s u (λ q. w.0.left (e ∙ q))))
+    (λ w. omega (arith, total_on_lem l s.args.s u (sym e ∙ w.if-slot-s.true)))
+    (λ w. omega (arith, total_off l s.args.s u (λ q. w.if-slot-s.false (e ∙ q))))
     c.if-slot-s.branch-raw
 
 returns : tie.Need-returns invariant-loop-u decreases-loop-u

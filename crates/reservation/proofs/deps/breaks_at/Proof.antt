@@ -81,7 +81,7 @@ dep_holds-requires c κs =
 touched : (c : tie.Joined-from-op) → ((dep (start c.before)).src ≡ (start c.before).args.op) ⊎ ((dep (start c.before)).dst ≡ (start c.before).args.op)
 touched c =
     let u = c.before in
-    ⊎_elim (λ w. inr (sym u.target-to.ensures ∙ w.1.left)) (λ w. inl (sym u.source-from.ensures ∙ w.left)) c.if-from-op.branch-raw
+    ⊎_elim (λ w. inr (sym u.target-to.ensures ∙ w.if-to-op.false)) (λ w. inl (sym u.source-from.ensures ∙ w.if-from-op.false)) c.if-from-op.branch-raw
 
 returns : tie.Need-returns
 returns c =

@@ -118,8 +118,8 @@ loop-j-preserved c =
       below_more _ i.loop-j.j i.loop-j.invariant.1
           (⊎_elim
           (λ w. pass_over g.interval g.start g.slot_ g.row (at i) (use_at (op i) i.loop-j.j) (is_use i) x.result x.ensures
-          w.1.result w.2.result w.1.ensures w.2.ensures w.0.taken w.3.left)
-          (λ w. pass_away g.interval g.start g.slot_ g.row (at i) (use_at (op i) i.loop-j.j) (is_use i) x.result x.ensures w.left)
+          w.offset.result w.duration.result w.offset.ensures w.duration.ensures w.if-slot-slot_.true w.if-row-interval.false)
+          (λ w. pass_away g.interval g.start g.slot_ g.row (at i) (use_at (op i) i.loop-j.j) (is_use i) x.result x.ensures w.if-slot-slot_.false)
           c.if-slot-slot_.branch-raw),
     )
 
