@@ -24,10 +24,10 @@ offset_bounds-starts-op : tie.Need-offset_bounds-starts-op
 offset_bounds-starts-op c = omega (arith, inside c.before.before)
 
 bounds-starts-op : tie.Need-bounds-starts-op
-bounds-starts-op c = inside c.before.before
+bounds-starts-op c = inside c.before.before.before
 
 overflow_cast-start : tie.Need-overflow_cast-start
-overflow_cast-start c = omega (arith, near c.before.before.before)
+overflow_cast-start c = omega (arith, near c.before.before.before.before)
 
 first_use-requires : tie.Need-first_use-requires
 first_use-requires c κs = let p = c.requires in (p.0.accepted, p.1)
@@ -35,22 +35,22 @@ first_use-requires c κs = let p = c.requires in (p.0.accepted, p.1)
 release-requires : tie.Need-release-requires
 release-requires c κs =
     let u = c.before in
-    let s = u.before.before.before.before in
+    let s = u.before.before.before.before.before in
     let p = s.requires in
     (p.0.accepted, p.1, lift_uses s.args.op (get_or s.args.starts.now s.args.op 0) p.0 p.1 (near s) (there s), u.first_use.ensures)
 
 offset_bounds-starts-op-2 : tie.Need-offset_bounds-starts-op-2
-offset_bounds-starts-op-2 c = omega (arith, inside c.before.before.before.before.before.before.before.before)
+offset_bounds-starts-op-2 c = omega (arith, inside c.before.before.before.before.before.before.before.before.before)
 
 bounds-starts-op-2 : tie.Need-bounds-starts-op-2
-bounds-starts-op-2 c = inside c.before.before.before.before.before.before.before.before
+bounds-starts-op-2 c = inside c.before.before.before.before.before.before.before.before.before
 
 shape_of-rows : tie.Need-shape_of-rows
 shape_of-rows c = search rules
 
 returns : tie.Need-returns
 returns c =
-    let s = c.before.before.before.before.before.before.before.before in
+    let s = c.before.before.before.before.before.before.before.before.before in
     let a = s.args in
     let p = s.requires in
     rw c.release.ensures

@@ -36,14 +36,14 @@ offset_bounds-starts-op : tie.Need-offset_bounds-starts-op
 offset_bounds-starts-op c = omega (arith, inside c.before.before.before.before.before.before.before)
 
 bounds-starts-op : tie.Need-bounds-starts-op
-bounds-starts-op c = inside c.before.before.before.before.before.before.before
+bounds-starts-op c = inside c.before.before.before.before.before.before.before.before
 
 shape_of-rows : tie.Need-shape_of-rows
 shape_of-rows c = search rules
 
 returns : tie.Need-returns
 returns c =
-    let s = c.before.before.before.before.before.before.before in
+    let s = c.before.before.before.before.before.before.before.before in
     let a = s.args in
     let p = s.requires in
     rw c.reserve.ensures

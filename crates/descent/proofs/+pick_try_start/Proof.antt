@@ -71,59 +71,59 @@ calls t = (
   release-reads.Learnt,
 )
 
-abbrev pick_Inv_loop : pick-lts.invariant-loop
+abbrev pick_Inv_loop : pick-lts.invariant-loop-s
 pick_Inv_loop file rows₀ w left links starts₀ op first n interval horizon purse₀ paid₀ s₀ rows starts purse paid s =
     AtStart file starts₀ rows₀ op n interval horizon left w.from w.to starts rows purse paid s
 
-abbrev pick-μ-loop : pick-lts.decreases-loop
+abbrev pick-μ-loop : pick-lts.decreases-loop-s
 pick-μ-loop file rows₀ w left links starts₀ op first n interval horizon purse₀ paid₀ s₀ rows starts purse paid s = horizon - s
 
 -- ---- pick
 
-pick_next_free_requires : (t : ℕ) → pick-lts.Need-next-free-requires (tries t) (pick_at t) pick.Post pick_Inv_loop pick-μ-loop
+pick_next_free_requires : (t : ℕ) → pick-lts.Need-next_free-s-requires (tries t) (pick_at t) pick.Post pick_Inv_loop pick-μ-loop
 pick_next_free_requires t c κs =
     let b = c.before.before.before in
     let p = b.requires.1 in
     (rows_of p.0.ready p.0.inside p.0.first_is refl, p.0.window.ordered, omega (arith, p.0.window.near, p.0.ready.near))
 
-pick_loop_holds : (t : ℕ) → pick-lts.Need-loop-init (tries t) (pick_at t) pick.Post pick_Inv_loop pick-μ-loop
+pick_loop_holds : (t : ℕ) → pick-lts.Need-loop-s-init (tries t) (pick_at t) pick.Post pick_Inv_loop pick-μ-loop
 pick_loop_holds t c =
     let p = c.before.before.before.before.requires.1 in enters p.0.ready p.0.window p.0.inside c.next-free.ensures
 
 -- the entry of pick, from its loop's head
-abbrev entry : (t : ℕ) → pick-lts.At-loop (tries t) (pick_at t) pick.Post pick_Inv_loop pick-μ-loop → pick-lts.Start (tries t) (pick_at t) pick.Post pick_Inv_loop pick-μ-loop
-entry t g = g.before.before.before.before.before
+abbrev entry : (t : ℕ) → pick-lts.At-loop-s (tries t) (pick_at t) pick.Post pick_Inv_loop pick-μ-loop → pick-lts.Start (tries t) (pick_at t) pick.Post pick_Inv_loop pick-μ-loop
+entry t g = g.before.before.before.before
 
-pick_sub_passed : (t : ℕ) → pick-lts.Need-overflow-sub-passed (tries t) (pick_at t) pick.Post pick_Inv_loop pick-μ-loop
+pick_sub_passed : (t : ℕ) → pick-lts.Need-overflow_sub-passed (tries t) (pick_at t) pick.Post pick_Inv_loop pick-μ-loop
 pick_sub_passed t c = omega (arith, c.before.before.loop.invariant.behind)
 
-pick_same_length : (t : ℕ) → pick-lts.Need-same-length (tries t) (pick_at t) pick.Post pick_Inv_loop pick-μ-loop
+pick_same_length : (t : ℕ) → pick-lts.Need-shape_of-rows-then-purse-passed (tries t) (pick_at t) pick.Post pick_Inv_loop pick-μ-loop
 pick_same_length t c = ap (λ (l : List ℕ). length l) c.before.before.before.loop.invariant.turn.rows_same
 
-pick_returns : (t : ℕ) → pick-lts.Need-returns (tries t) (pick_at t) pick.Post pick_Inv_loop pick-μ-loop
+pick_returns : (t : ℕ) → pick-lts.Need-returns-then-purse-passed (tries t) (pick_at t) pick.Post pick_Inv_loop pick-μ-loop
 pick_returns t c =
     let g = c.before.before.before in
     let p = (entry t g).requires.1 in
     (breaks p.0.ready p.0.window p.0.inside g.loop.invariant c.before.if1.true c.if2.true, g.loop.invariant.turn.rows_same)
 
-pick_sub_try_start : (t : ℕ) → pick-lts.Need-overflow-sub-try-start (tries t) (pick_at t) pick.Post pick_Inv_loop pick-μ-loop
+pick_sub_try_start : (t : ℕ) → pick-lts.Need-overflow_sub-purse (tries t) (pick_at t) pick.Post pick_Inv_loop pick-μ-loop
 pick_sub_try_start t c = omega (arith, c.before.if2.false)
 
-pick_sub_try_start_2 : (t : ℕ) → pick-lts.Need-overflow-sub-try-start-2 (tries t) (pick_at t) pick.Post pick_Inv_loop pick-μ-loop
+pick_sub_try_start_2 : (t : ℕ) → pick-lts.Need-overflow_sub-purse-in-loop-s (tries t) (pick_at t) pick.Post pick_Inv_loop pick-μ-loop
 pick_sub_try_start_2 t c = omega (arith, c.before.if2.false)
 
 -- where the start is to be tried
-at : (t : ℕ) (e : pick-lts.Else2 (tries t) (pick_at t) pick.Post pick_Inv_loop pick-μ-loop)
+at : (t : ℕ) (e : pick-lts.Else-purse-passed (tries t) (pick_at t) pick.Post pick_Inv_loop pick-μ-loop)
     → let g = e.before.before.before in
     let a = (entry t g).args in
-    AtProbe a.file.now a.starts.now a.rows.now a.op a.n a.interval a.horizon a.left g.loop.starts g.loop.rows
-    (g.loop.purse - (g.loop.s - g.loop.paid)) g.loop.s
+    AtProbe a.file.now a.starts.now a.rows.now a.op a.n a.interval a.horizon a.left g.loop-s.starts g.loop-s.rows
+    (g.loop-s.purse - (g.loop-s.s - g.loop-s.paid)) g.loop-s.s
 at t e =
     let g = e.before.before.before in
     let p = (entry t g).requires.1 in
-    arrives p.0.ready p.0.window p.0.inside g.loop.invariant (omega (arith, e.if2.false))
+    arrives p.0.ready p.0.window p.0.inside g.loop-s.invariant (omega (arith, e.if-purse-passed.false))
 
-pick_try_start_requires : (t : ℕ) → pick-lts.Need-try-start-requires (tries t) (pick_at t) pick.Post pick_Inv_loop pick-μ-loop
+pick_try_start_requires : (t : ℕ) → pick-lts.Need-try_start-f-requires (tries t) (pick_at t) pick.Post pick_Inv_loop pick-μ-loop
 pick_try_start_requires t c κs =
     let e = c.before.before in
     let g = e.before.before.before in
@@ -134,81 +134,81 @@ pick_try_start_requires t c κs =
     )
 
 -- a start before the window's end is below the horizon
-near : (t : ℕ) (c : pick-lts.Then1 (tries t) (pick_at t) pick.Post pick_Inv_loop pick-μ-loop) → c.before.before.loop.s < (entry t c.before.before).args.horizon
-near t c = omega (arith, c.if1.true, (entry t c.before.before).pre.1.0.window.near)
+near : (t : ℕ) (c : pick-lts.In-loop-s (tries t) (pick_at t) pick.Post pick_Inv_loop pick-μ-loop) → c.loop-s.s < (entry t c.before.before).args.horizon
+near t c = omega (arith, c.loop-s-test.true, (entry t c.before.before).pre.1.0.window.near)
 
 -- after the call
-there : (t : ℕ) (f : pick-lts.After-try-start (tries t) (pick_at t) pick.Post pick_Inv_loop pick-μ-loop)
+there : (t : ℕ) (f : pick-lts.After-try_start-f (tries t) (pick_at t) pick.Post pick_Inv_loop pick-μ-loop)
     → let g = f.before.before.before.before.before.before in
     let a = (entry t g).args in
     AfterProbe a.file.now a.starts.now a.rows.now a.op a.n a.interval a.horizon a.left
-    f.try-start.new.1.1.1.1.1.0 f.try-start.new.1.0 f.try-start.result g.loop.s
+    f.try_start-f.new.1.1.1.1.1.0 f.try_start-f.new.1.0 f.try_start-f.result g.loop-s.s
 there t f =
     let e = f.before.before.before in
     let g = e.before.before.before in
-    turned (entry t g).requires.1.0.ready (at t e) (near t e.before) (λ z. omega (arith, e.if2.false)) f.try-start.ensures.0 f.try-start.ensures.1
+    turned (entry t g).requires.1.0.ready (at t e) (near t e.before) (λ z. omega (arith, e.if-purse-passed.false)) f.try_start-f.ensures.0 f.try_start-f.ensures.1
 
-pick_enum_known_f : (t : ℕ) → pick-lts.Need-enum-known-f (tries t) (pick_at t) pick.Post pick_Inv_loop pick-μ-loop
+pick_enum_known_f : (t : ℕ) → pick-lts.Need-enum_known-f (tries t) (pick_at t) pick.Post pick_Inv_loop pick-μ-loop
 pick_enum_known_f t c = c.match.keys1
 
-pick_same_length_2 : (t : ℕ) → pick-lts.Need-same-length-2 (tries t) (pick_at t) pick.Post pick_Inv_loop pick-μ-loop
+pick_same_length_2 : (t : ℕ) → pick-lts.Need-shape_of-rows-in-All (tries t) (pick_at t) pick.Post pick_Inv_loop pick-μ-loop
 pick_same_length_2 t c = ap (λ (l : List ℕ). length l) (there t c.before.before.before.before.before).same
 
-pick_returns_2 : (t : ℕ) → pick-lts.Need-returns-2 (tries t) (pick_at t) pick.Post pick_Inv_loop pick-μ-loop
+pick_returns_2 : (t : ℕ) → pick-lts.Need-returns-in-All (tries t) (pick_at t) pick.Post pick_Inv_loop pick-μ-loop
 pick_returns_2 t c = let h = there t c.before.before.before.before.before in (h.if_all _ c.before.f.given.1, h.same)
 
-pick_enum_told : (t : ℕ) → pick-lts.Need-enum-told (tries t) (pick_at t) pick.Post pick_Inv_loop pick-μ-loop
+pick_enum_told : (t : ℕ) → pick-lts.Need-enum_told-1 (tries t) (pick_at t) pick.Post pick_Inv_loop pick-μ-loop
 pick_enum_told t c = c.match.keys2
 
-pick_same_length_3 : (t : ℕ) → pick-lts.Need-same-length-3 (tries t) (pick_at t) pick.Post pick_Inv_loop pick-μ-loop
+pick_same_length_3 : (t : ℕ) → pick-lts.Need-shape_of-rows-in-Spent (tries t) (pick_at t) pick.Post pick_Inv_loop pick-μ-loop
 pick_same_length_3 t c = ap (λ (l : List ℕ). length l) (there t c.before.before.before.before).same
 
-pick_returns_3 : (t : ℕ) → pick-lts.Need-returns-3 (tries t) (pick_at t) pick.Post pick_Inv_loop pick-μ-loop
+pick_returns_3 : (t : ℕ) → pick-lts.Need-returns-in-Spent (tries t) (pick_at t) pick.Post pick_Inv_loop pick-μ-loop
 pick_returns_3 t c = let h = there t c.before.before.before.before in (h.if_spent c.enum_told.given.1, h.same)
 
-pick_enum_known_f_2 : (t : ℕ) → pick-lts.Need-enum-known-f-2 (tries t) (pick_at t) pick.Post pick_Inv_loop pick-μ-loop
+pick_enum_known_f_2 : (t : ℕ) → pick-lts.Need-enum_known-f-in-Nothing-1 (tries t) (pick_at t) pick.Post pick_Inv_loop pick-μ-loop
 pick_enum_known_f_2 t c = c.match.keys3
 
 -- at the end of a turn: where it began
-abbrev turn : (t : ℕ) → pick-lts.After-known-told2 (tries t) (pick_at t) pick.Post pick_Inv_loop pick-μ-loop → pick-lts.Then1 (tries t) (pick_at t) pick.Post pick_Inv_loop pick-μ-loop
-turn t c = c.before.before.before.before.before.before.before.before.before
+abbrev turn : (t : ℕ) → pick-lts.In-Nothing (tries t) (pick_at t) pick.Post pick_Inv_loop pick-μ-loop → pick-lts.In-loop-s (tries t) (pick_at t) pick.Post pick_Inv_loop pick-μ-loop
+turn t c = c.before.before.before.before.before.before.before
 
-pick_add_paid : (t : ℕ) → pick-lts.Need-overflow-add-paid (tries t) (pick_at t) pick.Post pick_Inv_loop pick-μ-loop
+pick_add_paid : (t : ℕ) → pick-lts.Need-overflow_add-paid (tries t) (pick_at t) pick.Post pick_Inv_loop pick-μ-loop
 pick_add_paid t c = omega (arith, near t (turn t c), (entry t (turn t c).before.before).fits.horizon)
 
-pick_next_free_requires_2 : (t : ℕ) → pick-lts.Need-next-free-requires-2 (tries t) (pick_at t) pick.Post pick_Inv_loop pick-μ-loop
+pick_next_free_requires_2 : (t : ℕ) → pick-lts.Need-next_free-s-requires-in-loop-s (tries t) (pick_at t) pick.Post pick_Inv_loop pick-μ-loop
 pick_next_free_requires_2 t c κs =
     let d = c.before in
     let i = turn t d in
     let p = (entry t i.before.before).pre.1 in
     (rows_of p.0.ready p.0.inside p.0.first_is (there t d.before.before.before.before.before).same, omega (arith, i.if1.taken), omega (arith, p.0.window.near, p.0.ready.near))
 
-pick_loop_less : (t : ℕ) → pick-lts.Need-loop-smaller (tries t) (pick_at t) pick.Post pick_Inv_loop pick-μ-loop
+pick_loop_less : (t : ℕ) → pick-lts.Need-loop-s-smaller (tries t) (pick_at t) pick.Post pick_Inv_loop pick-μ-loop
 pick_loop_less t c = let i = turn t c.before.before in omega (arith, near t i, c.next-free2.ensures.behind)
 
-pick_loop_again : (t : ℕ) → pick-lts.Need-loop-preserved (tries t) (pick_at t) pick.Post pick_Inv_loop pick-μ-loop
+pick_loop_again : (t : ℕ) → pick-lts.Need-loop-s-preserved (tries t) (pick_at t) pick.Post pick_Inv_loop pick-μ-loop
 pick_loop_again t c =
     let d = c.before.before in
     let i = turn t d in
     let p = (entry t i.before.before).pre.1 in
-    moves p.0.ready p.0.window p.0.inside ((there t d.before.before.before.before.before).if_none _ d.before.f2.given.1) c.next-free2.ensures (omega (arith, i.before.before.loop.inv.begun))
+    moves p.0.ready p.0.window p.0.inside ((there t d.before.before.before.before.before).if_none _ d.before.f2.given.1) c.next-free2.ensures (omega (arith, i.before.before.loop.invariant.begun))
 
-pick_sub_above : (t : ℕ) → pick-lts.Need-overflow-sub-above (tries t) (pick_at t) pick.Post pick_Inv_loop pick-μ-loop
+pick_sub_above : (t : ℕ) → pick-lts.Need-overflow_sub-above (tries t) (pick_at t) pick.Post pick_Inv_loop pick-μ-loop
 pick_sub_above t c = c.before.before.loop.invariant.turn.within
 
-pick_same_length_4 : (t : ℕ) → pick-lts.Need-same-length-4 (tries t) (pick_at t) pick.Post pick_Inv_loop pick-μ-loop
+pick_same_length_4 : (t : ℕ) → pick-lts.Need-shape_of-rows-then-purse-above (tries t) (pick_at t) pick.Post pick_Inv_loop pick-μ-loop
 pick_same_length_4 t c = ap (λ (l : List ℕ). length l) c.before.before.before.loop.invariant.turn.rows_same
 
-pick_returns_4 : (t : ℕ) → pick-lts.Need-returns-4 (tries t) (pick_at t) pick.Post pick_Inv_loop pick-μ-loop
+pick_returns_4 : (t : ℕ) → pick-lts.Need-returns-then-purse-above (tries t) (pick_at t) pick.Post pick_Inv_loop pick-μ-loop
 pick_returns_4 t c =
     let g = c.before.before.before in
     let p = (entry t g).requires.1 in
     (breaks_above p.0.ready p.0.window p.0.inside g.loop.invariant c.before.if1.false c.if3.true, g.loop.invariant.turn.rows_same)
 
-pick_same_length_5 : (t : ℕ) → pick-lts.Need-same-length-5 (tries t) (pick_at t) pick.Post pick_Inv_loop pick-μ-loop
+pick_same_length_5 : (t : ℕ) → pick-lts.Need-shape_of-rows (tries t) (pick_at t) pick.Post pick_Inv_loop pick-μ-loop
 pick_same_length_5 t c = ap (λ (l : List ℕ). length l) c.before.before.before.loop.invariant.turn.rows_same
 
-pick_returns_5 : (t : ℕ) → pick-lts.Need-returns-5 (tries t) (pick_at t) pick.Post pick_Inv_loop pick-μ-loop
+pick_returns_5 : (t : ℕ) → pick-lts.Need-returns (tries t) (pick_at t) pick.Post pick_Inv_loop pick-μ-loop
 pick_returns_5 t c =
     let g = c.before.before.before in
     let p = (entry t g).requires.1 in
@@ -220,10 +220,10 @@ try_start_excluded_requires : (t : ℕ) → try-start-lts.Need-excluded-requires
 try_start_excluded_requires t c κs =
     let p = c.before.before.before.requires.1.0 in (rows_of p.ready p.inside p.first_is refl, omega (arith, p.start_near, p.ready.near))
 
-try_start_same_length : (t : ℕ) → try-start-lts.Need-same-length (calls t) (try_start_at t) try-start.Post
+try_start_same_length : (t : ℕ) → try-start-lts.Need-shape_of-rows-then-excluded-gt0 (calls t) (try_start_at t) try-start.Post
 try_start_same_length t c = refl
 
-try_start_returns : (t : ℕ) → try-start-lts.Need-returns (calls t) (try_start_at t) try-start.Post
+try_start_returns : (t : ℕ) → try-start-lts.Need-returns-then-excluded-gt0 (calls t) (try_start_at t) try-start.Post
 try_start_returns t c =
     let k = c.before in
     let b = k.before.before.before.before in
@@ -232,7 +232,7 @@ try_start_returns t c =
 
 -- where the test is passed
 abbrev Passed : ℕ → Type 0
-Passed t = try-start-lts.Else1 (calls t) (try_start_at t) try-start.Post
+Passed t = try-start-lts.Else-excluded-gt0 (calls t) (try_start_at t) try-start.Post
 
 -- the entry of try_start, from there
 abbrev first : (t : ℕ) → Passed t → try-start-lts.Start (calls t) (try_start_at t) try-start.Post
@@ -242,13 +242,13 @@ first t f = f.before.before.before.before.before
 free : (t : ℕ) (f : Passed t) → let a = (first t f).args in first_met row_base a.interval a.rows.now a.s (op_at (loop_of a.file.now) a.op).uses ≡ none
 free t f = f.before.excluded.ensures.free (omega (arith, f.if1.left))
 
-try_start_cast_starts : (t : ℕ) → try-start-lts.Need-overflow-cast-starts (calls t) (try_start_at t) try-start.Post
+try_start_cast_starts : (t : ℕ) → try-start-lts.Need-overflow_cast-starts (calls t) (try_start_at t) try-start.Post
 try_start_cast_starts t c = let p = (first t c).requires.1.0 in omega (arith, p.start_near, p.ready.near)
 
-try_start_mul_starts : (t : ℕ) → try-start-lts.Need-overflow-mul-starts (calls t) (try_start_at t) try-start.Post
+try_start_mul_starts : (t : ℕ) → try-start-lts.Need-offset_bounds-starts-op (calls t) (try_start_at t) try-start.Post
 try_start_mul_starts t c = omega (arith, op_few (first t c).requires.1.0)
 
-try_start_element_write_starts : (t : ℕ) → try-start-lts.Need-element-write-starts (calls t) (try_start_at t) try-start.Post
+try_start_element_write_starts : (t : ℕ) → try-start-lts.Need-bounds-starts-op (calls t) (try_start_at t) try-start.Post
 try_start_element_write_starts t c = omega (arith, op_few (first t c).requires.1.0)
 
 -- the search one operation deeper, with the rows as they would be with it
@@ -257,36 +257,36 @@ next_ready : (t : ℕ) (f : Passed t) → let a = (first t f).args in
     (a.op + 1) a.n a.interval a.horizon
 next_ready t f = deeper (first t f).pre.1.0 (free t f) refl
 
-try_start_add_if2 : (t : ℕ) → try-start-lts.Need-overflow-add-if2 (calls t) (try_start_at t) try-start.Post
+try_start_add_if2 : (t : ℕ) → try-start-lts.Need-overflow_add-op (calls t) (try_start_at t) try-start.Post
 try_start_add_if2 t c = omega (arith, op_few (first t c).requires.1.0)
 
-try_start_same_length_2 : (t : ℕ) → try-start-lts.Need-same-length-2 (calls t) (try_start_at t) try-start.Post
+try_start_same_length_2 : (t : ℕ) → try-start-lts.Need-shape_of-rows-then-op-n (calls t) (try_start_at t) try-start.Post
 try_start_same_length_2 t c = refl
 
-try_start_returns_2 : (t : ℕ) → try-start-lts.Need-returns-2 (calls t) (try_start_at t) try-start.Post
+try_start_returns_2 : (t : ℕ) → try-start-lts.Need-returns-then-op-n (calls t) (try_start_at t) try-start.Post
 try_start_returns_2 t c =
     let f = c.before in
     let b = first t f in
     (back b.pre.1.0 b.args.left (leaf (next_ready t f) c.if2.true), refl)
 
-try_start_add_window_of : (t : ℕ) → try-start-lts.Need-overflow-add-window-of (calls t) (try_start_at t) try-start.Post
+try_start_add_window_of : (t : ℕ) → try-start-lts.Need-overflow_add-op-2 (calls t) (try_start_at t) try-start.Post
 try_start_add_window_of t c = omega (arith, op_few (first t c.before).pre.1.0)
 
 -- there is a next operation
-further : (t : ℕ) (c : try-start-lts.Else2 (calls t) (try_start_at t) try-start.Post) → let a = (first t c.before).args in a.op + 1 < a.n
-further t c = omega (arith, (first t c.before).pre.1.0.inside, c.if2.false)
+further : (t : ℕ) (c : try-start-lts.Else-op-n (calls t) (try_start_at t) try-start.Post) → let a = (first t c.before.before).args in a.op + 1 < a.n
+further t c = omega (arith, (first t c.before.before).pre.1.0.inside, c.if-op-n.false)
 
-try_start_window_of_requires : (t : ℕ) → try-start-lts.Need-window-of-requires (calls t) (try_start_at t) try-start.Post
+try_start_window_of_requires : (t : ℕ) → try-start-lts.Need-window_of-w-requires (calls t) (try_start_at t) try-start.Post
 try_start_window_of_requires t c κs =
     let d = c.before in
     let b = first t d.before in
     let r = next_ready t d.before in
     (r.accepted, b.pre.1.1, omega (arith, r.is_size, further t d), omega (arith, r.long, further t d), r.early, r.short)
 
-try_start_same_length_3 : (t : ℕ) → try-start-lts.Need-same-length-3 (calls t) (try_start_at t) try-start.Post
+try_start_same_length_3 : (t : ℕ) → try-start-lts.Need-shape_of-rows-then-left-horizon (calls t) (try_start_at t) try-start.Post
 try_start_same_length_3 t c = refl
 
-try_start_returns_3 : (t : ℕ) → try-start-lts.Need-returns-3 (calls t) (try_start_at t) try-start.Post
+try_start_returns_3 : (t : ℕ) → try-start-lts.Need-returns-then-left-horizon (calls t) (try_start_at t) try-start.Post
 try_start_returns_3 t c =
     let v = c.before in
     let w = v.before.before in
@@ -294,10 +294,10 @@ try_start_returns_3 t c =
     let b = first t d.before in
     (back b.pre.1.0 b.args.left (breaks_empty (next_ready t d.before) w.window-of.ensures (further t d) v.if3.true c.if4.true), refl)
 
-try_start_same_length_4 : (t : ℕ) → try-start-lts.Need-same-length-4 (calls t) (try_start_at t) try-start.Post
+try_start_same_length_4 : (t : ℕ) → try-start-lts.Need-shape_of-rows-then-w (calls t) (try_start_at t) try-start.Post
 try_start_same_length_4 t c = refl
 
-try_start_returns_4 : (t : ℕ) → try-start-lts.Need-returns-4 (calls t) (try_start_at t) try-start.Post
+try_start_returns_4 : (t : ℕ) → try-start-lts.Need-returns-then-w (calls t) (try_start_at t) try-start.Post
 try_start_returns_4 t c =
     let v = c.before in
     let w = v.before.before in
@@ -311,29 +311,29 @@ try_start_reserve_requires t c κs =
     (p.ready.accepted, omega (arith, p.inside, p.ready.is_size), can_reserve p (free t c.before.before.before.before.before.before), p.first_is)
 
 -- where the operation is reserved
-abbrev kept : (t : ℕ) → try-start-lts.After-slice-known2 (calls t) (try_start_at t) try-start.Post → try-start-lts.After-reserve (calls t) (try_start_at t) try-start.Post
+abbrev kept : (t : ℕ) → try-start-lts.After-slice_known-2-1 (calls t) (try_start_at t) try-start.Post → try-start-lts.After-reserve (calls t) (try_start_at t) try-start.Post
 kept t c = c.before.before
 
 -- and where its test was passed
 abbrev before : (t : ℕ) → try-start-lts.After-reserve (calls t) (try_start_at t) try-start.Post → Passed t
-before t v = v.before.before.before.before.before.before.before
+before t v = v.before.before.before.before.before.before.before.before
 
-try_start_use_count_requires : (t : ℕ) → try-start-lts.Need-use-count-requires (calls t) (try_start_at t) try-start.Post
+try_start_use_count_requires : (t : ℕ) → try-start-lts.Need-use_count-requires (calls t) (try_start_at t) try-start.Post
 try_start_use_count_requires t c κs =
     let p = (first t (before t (kept t c))).pre.1.0 in (p.ready.accepted, omega (arith, p.inside, p.ready.is_size))
 
 -- the first use of the next operation
-next_first : (t : ℕ) (c : try-start-lts.After-use-count (calls t) (try_start_at t) try-start.Post)
+next_first : (t : ℕ) (c : try-start-lts.After-use_count (calls t) (try_start_at t) try-start.Post)
     → let a = (first t (before t (kept t c.before))).args in a.first + c.use_count.result ≡ first_use_of (loop_of a.file.now) (a.op + 1)
 next_first t c = next_use (first t (before t (kept t c.before))).pre.1.0 c.use_count.ensures
 
-try_start_add_next : (t : ℕ) → try-start-lts.Need-overflow-add-next (calls t) (try_start_at t) try-start.Post
+try_start_add_next : (t : ℕ) → try-start-lts.Need-overflow_add-next (calls t) (try_start_at t) try-start.Post
 try_start_add_next t c = omega (arith, next_few (first t (before t (kept t c.before))).pre.1.0 c.use_count.ensures)
 
-try_start_add_pick : (t : ℕ) → try-start-lts.Need-overflow-add-pick (calls t) (try_start_at t) try-start.Post
+try_start_add_pick : (t : ℕ) → try-start-lts.Need-overflow_add-op-3 (calls t) (try_start_at t) try-start.Post
 try_start_add_pick t c = omega (arith, op_few (first t (before t (kept t c.before.before.before))).pre.1.0)
 
-try_start_pick_requires : (t : ℕ) → try-start-lts.Need-pick-requires (calls t) (try_start_at t) try-start.Post
+try_start_pick_requires : (t : ℕ) → try-start-lts.Need-pick-f-requires (calls t) (try_start_at t) try-start.Post
 try_start_pick_requires t c κs =
     let u = c.before.before in
     let v = kept t u.before in
@@ -342,11 +342,11 @@ try_start_pick_requires t c κs =
     (omega (arith, (first t f).pre.0), (record { ready = deeper (first t f).pre.1.0 (free t f) v.reserve.ensures; inside = further t w.before.before; first_is = next_first t u; window = w.window-of.ensures }, (first t f).pre.1.1))
 
 -- after the call: where the operation was reserved
-abbrev put : (t : ℕ) → try-start-lts.After-pick (calls t) (try_start_at t) try-start.Post → try-start-lts.After-reserve (calls t) (try_start_at t) try-start.Post
+abbrev put : (t : ℕ) → try-start-lts.After-pick-f (calls t) (try_start_at t) try-start.Post → try-start-lts.After-reserve (calls t) (try_start_at t) try-start.Post
 put t w = kept t w.before.before.before.before
 
 -- and where the test was passed
-abbrev passed : (t : ℕ) → try-start-lts.After-pick (calls t) (try_start_at t) try-start.Post → Passed t
+abbrev passed : (t : ℕ) → try-start-lts.After-pick-f (calls t) (try_start_at t) try-start.Post → Passed t
 passed t w = before t (put t w)
 
 try_start_release_requires : (t : ℕ) → try-start-lts.Need-release-requires (calls t) (try_start_at t) try-start.Post
@@ -356,20 +356,20 @@ try_start_release_requires t c κs =
     (p.ready.accepted, omega (arith, p.inside, p.ready.is_size), can_release p (free t (passed t w)) (put t w).reserve.ensures w.pick.ensures.1, p.first_is)
 
 -- at the end: the call
-abbrev call : (t : ℕ) → try-start-lts.After-slice-known4 (calls t) (try_start_at t) try-start.Post → try-start-lts.After-pick (calls t) (try_start_at t) try-start.Post
+abbrev call : (t : ℕ) → try-start-lts.After-slice_known-4-1 (calls t) (try_start_at t) try-start.Post → try-start-lts.After-pick-f (calls t) (try_start_at t) try-start.Post
 call t c = c.before.before.before.before.before.before
 
 -- and the rows as they were
-as_before : (t : ℕ) (c : try-start-lts.After-slice-known4 (calls t) (try_start_at t) try-start.Post)
-    → c.before.before.release.new.1.1.1.1.1.0 ≡ (first t (passed t (call t c))).args.rows.now
+as_before : (t : ℕ) (c : try-start-lts.After-slice_known-4-1 (calls t) (try_start_at t) try-start.Post)
+    → c.release.new.1.1.1.1.1.0 ≡ (first t (passed t (call t c))).args.rows.now
 as_before t c =
     let w = call t c in
-    given_back (first t (passed t w)).pre.1.0 (free t (passed t w)) (put t w).reserve.ensures w.pick.ensures.1 c.before.before.release.ensures
+    given_back (first t (passed t w)).pre.1.0 (free t (passed t w)) (put t w).reserve.ensures w.pick.ensures.1 c.release.ensures
 
-try_start_same_length_5 : (t : ℕ) → try-start-lts.Need-same-length-5 (calls t) (try_start_at t) try-start.Post
+try_start_same_length_5 : (t : ℕ) → try-start-lts.Need-shape_of-rows (calls t) (try_start_at t) try-start.Post
 try_start_same_length_5 t c = ap (λ (l : List ℕ). length l) (as_before t c)
 
-try_start_returns_5 : (t : ℕ) → try-start-lts.Need-returns-5 (calls t) (try_start_at t) try-start.Post
+try_start_returns_5 : (t : ℕ) → try-start-lts.Need-returns (calls t) (try_start_at t) try-start.Post
 try_start_returns_5 t c =
     let b = first t (passed t (call t c)) in (back b.pre.1.0 b.args.left (call t c).pick.ensures.0, as_before t c)
 

@@ -96,22 +96,22 @@ offset_bounds-free-at : tie.Need-offset_bounds-free-at invariant-loop-j decrease
 offset_bounds-free-at c = omega (arith, inside c.before)
 
 bounds-free-at : tie.Need-bounds-free-at invariant-loop-j decreases-loop-j
-bounds-free-at c = inside c.before
+bounds-free-at c = inside c.before.before
 
 moved-requires : tie.Need-moved-requires invariant-loop-j decreases-loop-j
 moved-requires c κs =
-    let d = c.before in
+    let d = c.before.before in
     let i = d.before.before in
     rw (slot_is d.before, duration_is d) (room_use (ok i) (room i))
 
 offset_bounds-free-at-in-loop-j : tie.Need-offset_bounds-free-at-in-loop-j invariant-loop-j decreases-loop-j
-offset_bounds-free-at-in-loop-j c = omega (arith, inside c.before.before.before)
+offset_bounds-free-at-in-loop-j c = omega (arith, inside c.before.before.before.before)
 
 bounds-free-at-in-loop-j : tie.Need-bounds-free-at-in-loop-j invariant-loop-j decreases-loop-j
-bounds-free-at-in-loop-j c = inside c.before.before.before
+bounds-free-at-in-loop-j c = inside c.before.before.before.before
 
 overflow_add-j : tie.Need-overflow_add-j invariant-loop-j decreases-loop-j
-overflow_add-j c = omega (arith, here c.before.before.before.before)
+overflow_add-j c = omega (arith, here c.before.before.before.before.before)
 
 loop-j-smaller : tie.Need-loop-j-smaller invariant-loop-j decreases-loop-j
 loop-j-smaller c = omega arith
@@ -119,7 +119,7 @@ loop-j-smaller c = omega arith
 -- a turn changes the numbers by its use
 loop-j-preserved : tie.Need-loop-j-preserved invariant-loop-j decreases-loop-j
 loop-j-preserved c =
-    let d = c.before.before in
+    let d = c.before.before.before in
     let i = d.before.before in
     let h = i.loop-j.invariant.1 in
     let e = rw (slot_is d.before, duration_is d) at c.moved.ensures in

@@ -110,7 +110,7 @@ module _ (c : tie.After-head) where
 body-requires : tie.Need-body-requires
 body-requires c κs =
     let h = c.before.before.before in
-    (omega (arith, room (fine h), (headed h).long), (passes_bytes (lists (s h)) (right (checked (fine h)))).0)
+    (omega (arith, room (fine h.before.before), (headed h).long), (passes_bytes (lists (s h.before.before.before.before.before.before.before)) (right (checked (fine h.before.before)))).0)
 
 -- after the body of the operations
 module _ (c : tie.After-body) where
@@ -124,12 +124,12 @@ module _ (c : tie.After-body) where
   first = next_stored 26 (map byte_of d.ops) (headed h) (omega arith) (omega (arith, room (fine h), length-map d.ops byte_of)) c.body.ensures
 
 overflow_add-ops : tie.Need-overflow_add-ops
-overflow_add-ops c = omega (arith, short (checked (fine (h c.before.before.before))))
+overflow_add-ops c = omega (arith, short (checked (fine (h c.before.before.before.before.before.before.before))))
 
 body-requires-2 : tie.Need-body-requires-2
 body-requires-2 c κs =
     let b = c.before.before.before in
-    (omega (arith, room (fine (h b)), (first b).long), (passes_bytes (d b) (right (checked (fine (h b))))).1)
+    (omega (arith, room (fine (h b.before.before.before.before)), (first b).long), (passes_bytes (d b) (right (checked (fine (h b.before.before.before.before))))).1)
 
 -- after that of the uses
 module _ (c : tie.After-body-2) where
@@ -142,15 +142,15 @@ module _ (c : tie.After-body-2) where
       (omega (arith, room (fine (h b)), length-map (d b).ops byte_of, length-map (d b).uses byte_of)) c.body-2.ensures
 
 overflow_add-ops-2 : tie.Need-overflow_add-ops-2
-overflow_add-ops-2 c = omega (arith, short (checked (fine (h (b c.before.before.before)))))
+overflow_add-ops-2 c = omega (arith, short (checked (fine (h (b c.before.before.before.before.before.before.before)))))
 
 overflow_add-ops-3 : tie.Need-overflow_add-ops-3
-overflow_add-ops-3 c = omega (arith, short (checked (fine (h (b c.before.before.before)))))
+overflow_add-ops-3 c = omega (arith, short (checked (fine (h (b c.before.before.before.before.before.before.before)))))
 
 body-requires-3 : tie.Need-body-requires-3
 body-requires-3 c κs =
     let u = c.before.before.before in
-    (omega (arith, room (fine (h (b u))), (second u).long), (passes_bytes (d (b u)) (right (checked (fine (h (b u)))))).2)
+    (omega (arith, room (fine (h (b u.before.before.before.before))), (second u).long), (passes_bytes (d (b u.before.before.before.before)) (right (checked (fine (h (b u.before.before.before.before)))))).2)
 
 -- and after that of the dependences: the whole file
 module _ (c : tie.After-body-3) where
@@ -172,7 +172,7 @@ shape_of-buffer c = (third c.before.before).long
 returns : tie.Need-returns
 returns c =
     let e = c.before.before in
-    let t = fine (h (b (u e))) in
+    let t = fine (h (b (u e.before.before.before.before))) in
     writes (lists (start (checked t))) (start (checked t)).args.buffer.now (right (checked t)) (room t) (third e)
 
 pub write_spec : {M : Type 1} → statement M

@@ -36,7 +36,7 @@ abbrev start : tie.In-Accepted → tie.Start
 start c = c.before.before.before.before.before
 
 -- what the reader's answer says of the file
-known : (c : tie.In-Accepted) → let t = (c.in-Accepted.n, (c.in-Accepted.field-1, (c.in-Accepted.field-2, tt))) in IsAccepted (start c).args.file.now t.0 t.1.0 t.1.1.0
+known : (c : tie.In-Accepted) → IsAccepted (start c).args.file.now c.in-Accepted.n c.in-Accepted.field-1 c.in-Accepted.field-2
 known c = read_accepted _ _ _ _ (sym (ap reading_of c.in-Accepted.is) ∙ c.read-reading.ensures)
 
 request-asked-requires : tie.Need-request-asked-requires

@@ -42,7 +42,7 @@ start c = c.before.before.before.before
 abbrev file : tie.In-Accepted → List ℕ
 file c = (start c).args.file.now
 
-known : (c : tie.In-Accepted) → let t = (c.in-Accepted.n, (c.in-Accepted.field-1, (c.in-Accepted.field-2, tt))) in IsAccepted (file c) t.0 t.1.0 t.1.1.0
+known : (c : tie.In-Accepted) → IsAccepted (file c) c.in-Accepted.n c.in-Accepted.field-1 c.in-Accepted.field-2
 known c = read_accepted _ _ _ _ (sym (ap reading_of c.in-Accepted.is) ∙ c.read-reading.ensures)
 
 -- the checks that are left, for n operations: of the list, and before it of the interval

@@ -36,20 +36,20 @@ offset_bounds-starts-op : tie.Need-offset_bounds-starts-op
 offset_bounds-starts-op c = record { fits = omega (arith, small c) }
 
 bounds-starts-op : tie.Need-bounds-starts-op
-bounds-starts-op c = small c
+bounds-starts-op c = small c.before
 
 returns-then-starts-op : tie.Need-returns-then-starts-op
-returns-then-starts-op c = let e = c.before.before in let a = e.args in sym (is_taken a.file.now a.horizon a.op a.start a.starts.now (inside e) (λ q. c.if-starts-op.true (sym (there e) ∙ q)))
+returns-then-starts-op c = let e = c.before.before.before in let a = e.args in sym (is_taken a.file.now a.horizon a.op a.start a.starts.now (inside e) (λ q. c.if-starts-op.true (sym (there e) ∙ q)))
 
 returns-then-horizon-start : tie.Need-returns-then-horizon-start
 returns-then-horizon-start c =
-    let e = c.before.before.before in
+    let e = c.before.before.before.before in
     let a = e.args in
     sym (is_late a.file.now a.horizon a.op a.start a.starts.now (inside e) (there e ∙ c.if-starts-op.false) c.if-horizon-start.true)
 
 returns : tie.Need-returns
 returns c =
-    let e = c.before.before.before in
+    let e = c.before.before.before.before in
     let a = e.args in
     sym (is_known a.file.now a.horizon a.op a.start a.starts.now (inside e) (there e ∙ c.if-starts-op.false) c.if-horizon-start.false)
 

@@ -36,13 +36,13 @@ offset_bounds-starts-op : tie.Need-offset_bounds-starts-op
 offset_bounds-starts-op c = record { fits = omega (arith, small c) }
 
 bounds-starts-op : tie.Need-bounds-starts-op
-bounds-starts-op c = small c
+bounds-starts-op c = small c.before
 
 returns-then-starts-op : tie.Need-returns-then-starts-op
-returns-then-starts-op c = let e = c.before.before in let a = e.args in sym (is_free a.file.now 0 a.op 0 a.starts.now (inside e) (there e ∙ c.if-starts-op.true))
+returns-then-starts-op c = let e = c.before.before.before in let a = e.args in sym (is_free a.file.now 0 a.op 0 a.starts.now (inside e) (there e ∙ c.if-starts-op.true))
 
 returns : tie.Need-returns
-returns c = let e = c.before.before in let a = e.args in sym (is_there a.file.now 0 a.op 0 a.starts.now (inside e) (λ q. c.if-starts-op.false (sym (there e) ∙ q)))
+returns c = let e = c.before.before.before in let a = e.args in sym (is_there a.file.now 0 a.op 0 a.starts.now (inside e) (λ q. c.if-starts-op.false (sym (there e) ∙ q)))
 
 pub removable_spec : {M : Type 1} → statement M
 removable_spec = tie.close (tie.spec op_count-requires returns-then-op_count-op offset_bounds-starts-op bounds-starts-op returns-then-starts-op returns)

@@ -80,10 +80,10 @@ lift-requires c κs =
     (t.board, inside i, clear_placed s.requires.0 s.requires.2 t (sym a.in_the_way.ensures ∙ a.if-in_the_way.true))
 
 overflow_shl-mask : tie.Need-overflow_shl-mask invariant-loop-p decreases-loop-p
-overflow_shl-mask c = below c.before.before.before.before.before.before.before.before.before
+overflow_shl-mask c = below c.before.before.before.before.before.before.before.before
 
 overflow_add-p : tie.Need-overflow_add-p invariant-loop-p decreases-loop-p
-overflow_add-p c = omega (arith, below c.before.before.before.before)
+overflow_add-p c = omega (arith, below c.before.before.before)
 
 loop-p-smaller : tie.Need-loop-p-smaller invariant-loop-p decreases-loop-p
 loop-p-smaller c = omega arith

@@ -30,43 +30,43 @@ offset_bounds-starts-p : tie.Need-offset_bounds-starts-p
 offset_bounds-starts-p c = omega (arith, below c.before)
 
 bounds-starts-p : tie.Need-bounds-starts-p
-bounds-starts-p c = below c.before
+bounds-starts-p c = below c.before.before
 
 returns-then-other : tie.Need-returns-then-other
 returns-then-other c =
-    let s = c.before.before.before in
+    let s = c.before.before.before.before in
     sym (way_blank s.args.file.now s.requires.accepted s.requires.sane s.args.op s.args.start s.args.p (number_is s ∙ c.if-other.true))
 
 bounds-hits-p : tie.Need-bounds-hits-p
-bounds-hits-p c = below c.before.before.before
+bounds-hits-p c = below c.before.before.before.before.before
 
 returns-then-hits-p-eq1 : tie.Need-returns-then-hits-p-eq1
 returns-then-hits-p-eq1 c =
-    let i = c.before.before in
-    let s = i.before.before.before in
+    let i = c.before.before.before in
+    let s = i.before.before.before.before in
     sym (way_hit s.args.file.now s.requires.accepted s.requires.sane s.args.op s.args.start s.args.p _ (number_is s) i.if-other.false
     (sym (s.requires.hit.1 (other s i.if-other.false)) ∙ eq-eqb (get_or s.args.hits.now s.args.p 0) 1 c.if-hits-p-eq1.true))
 
 -- its start is in range
-near : (c : tie.Else-hits-p-eq1) → let s = c.before.before.before.before.before in get_or s.args.starts.now s.args.p 0 < 4096
+near : (c : tie.Else-hits-p-eq1) → let s = c.before.before.before.before.before.before.before in get_or s.args.starts.now s.args.p 0 < 4096
 near c =
-    let i = c.before.before in
-    let s = i.before.before.before in
+    let i = c.before.before.before in
+    let s = i.before.before.before.before in
     omega (arith, number_is s, sane_near s.requires.sane s.args.p (λ e. i.if-other.false (sym (number_is s) ∙ e)))
 
 -- no dependence with it is broken
-unmarked : (c : tie.Else-hits-p-eq1) → let s = c.before.before.before.before.before in
+unmarked : (c : tie.Else-hits-p-eq1) → let s = c.before.before.before.before.before.before.before in
     hit_by (loop_of s.args.file.now) s.args.interval (seats s.args.starts.now) s.args.op s.args.start (length (loop_of s.args.file.now).deps) s.args.p ≡ false
 unmarked c =
-    let i = c.before.before in
-    let s = i.before.before.before in
+    let i = c.before.before.before in
+    let s = i.before.before.before.before in
     sym (s.requires.hit.1 (other s i.if-other.false)) ∙ ne_eqb (get_or s.args.hits.now s.args.p 0) 1 c.if-hits-p-eq1.false
 
 returns-then-free : tie.Need-returns-then-free
 returns-then-free c =
     let d = c.before in
-    let i = d.before.before in
-    let s = i.before.before.before in
+    let i = d.before.before.before in
+    let s = i.before.before.before.before in
     sym (way_free s.args.file.now s.requires.accepted s.requires.sane s.args.op s.args.start s.args.p _ (number_is s) i.if-other.false (unmarked d) (s.requires.apart c.if-free.true))
 
 overflow_cast-other : tie.Need-overflow_cast-other
@@ -74,14 +74,14 @@ overflow_cast-other c = omega (arith, near c.before)
 
 overlap-requires : tie.Need-overlap-requires
 overlap-requires c κs =
-    let s = c.before.before.before.before.before.before in
+    let s = c.before.before.before.before.before.before.before.before in
     (s.requires.accepted, s.requires.inside, s.requires.inside_p, s.requires.near, near c.before, s.requires.numbers.some, s.requires.numbers.short)
 
 returns : tie.Need-returns
 returns c =
     let d = c.before.before in
-    let i = d.before.before in
-    let s = i.before.before.before in
+    let i = d.before.before.before in
+    let s = i.before.before.before.before in
     c.overlap.ensures
     ∙ sym (way_clash s.args.file.now s.requires.accepted s.requires.sane s.args.op s.args.start s.args.p _ (number_is s) i.if-other.false (other s i.if-other.false) (unmarked d))
 

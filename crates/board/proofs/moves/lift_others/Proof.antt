@@ -43,30 +43,30 @@ offset_bounds-starts-p : tie.Need-offset_bounds-starts-p invariant-loop-p decrea
 offset_bounds-starts-p c = omega (arith, below c)
 
 bounds-starts-p : tie.Need-bounds-starts-p invariant-loop-p decreases-loop-p
-bounds-starts-p c = below c
+bounds-starts-p c = below c.before
 
 offset_bounds-wanted-p : tie.Need-offset_bounds-wanted-p invariant-loop-p decreases-loop-p
-offset_bounds-wanted-p c = omega (arith, below c.before.before)
+offset_bounds-wanted-p c = omega (arith, below c.before.before.before)
 
 bounds-wanted-p : tie.Need-bounds-wanted-p invariant-loop-p decreases-loop-p
-bounds-wanted-p c = below c.before.before
+bounds-wanted-p c = below c.before.before.before.before
 
 lift-requires : tie.Need-lift-requires invariant-loop-p decreases-loop-p
 lift-requires c κs =
-    let a = c.before.before.before.before in
-    let i = a.before.before in
+    let a = c.before.before.before.before.before in
+    let i = a.before.before.before in
     let b = i.loop-p.invariant.1.board in
     (b, omega (arith, i.op_count-n.ensures, i.loop-p-test.true), omega (arith, sane_near b.sane i.loop-p.p (λ e. a.if-start.true (sym (start_is i) ∙ e))))
 
 overflow_add-p : tie.Need-overflow_add-p invariant-loop-p decreases-loop-p
-overflow_add-p c = omega (arith, below c.before.before)
+overflow_add-p c = omega (arith, below c.before.before.before)
 
 loop-p-smaller : tie.Need-loop-p-smaller invariant-loop-p decreases-loop-p
 loop-p-smaller c = omega arith
 
 loop-p-preserved : tie.Need-loop-p-preserved invariant-loop-p decreases-loop-p
 loop-p-preserved c =
-    let i = c.before.before in
+    let i = c.before.before.before in
     let t = i.loop-p.invariant.1 in
     let l : i.loop-p.p < length i.loop-p.starts = omega (arith, below i, t.board.sane.whole) in (
       omega arith,

@@ -59,10 +59,10 @@ target-to-requires : tie.Need-target-to-requires invariant-loop-e decreases-loop
 target-to-requires c κs = let i = c.before.before.before.before.before in ((entry i).requires.0.accepted, below i)
 
 bounds-hits-to : tie.Need-bounds-hits-to invariant-loop-e decreases-loop-e
-bounds-hits-to c = let i = c.before.before.before.before.before.before in omega (arith, (dep_ok i).target, few i, c.target-to.ensures)
+bounds-hits-to c = let i = c.before.before.before.before.before.before.before in omega (arith, (dep_ok i).target, few i, c.target-to.ensures)
 
 bounds-hits-from : tie.Need-bounds-hits-from invariant-loop-e decreases-loop-e
-bounds-hits-from c = let i = c.before.before.before.before.before in omega (arith, (dep_ok i).source, few i, c.source-from.ensures)
+bounds-hits-from c = let i = c.before.before.before.before.before.before in omega (arith, (dep_ok i).source, few i, c.source-from.ensures)
 
 overflow_add-e : tie.Need-overflow_add-e invariant-loop-e decreases-loop-e
 overflow_add-e c = omega arith

@@ -44,22 +44,22 @@ wanted_is : (c : tie.In-loop-p invariant-loop-p decreases-loop-p) → get_or (en
 wanted_is c = get_or_within (entry c).args.wanted.now c.loop-p.p 65535 0 (omega (arith, below c, (entry c).requires.1.whole))
 
 -- a start that is put in is in range
-near : (c : tie.Then-start invariant-loop-p decreases-loop-p) → get_or (entry c.before.before.before.before).args.wanted.now c.loop-p.p 0 < 4096
+near : (c : tie.Then-start invariant-loop-p decreases-loop-p) → get_or (entry c.before.before.before.before.before.before).args.wanted.now c.loop-p.p 0 < 4096
 near c =
-    let i = c.before.before.before.before in
+    let i = c.before.before.before.before.before.before in
     fill_near i.loop-p.invariant.1 (get_or (entry i).args.wanted.now i.loop-p.p 0) (entry i).requires.1 (inside i) (start_is i ∙ c.if-starts-p.true) (wanted_is i) c.if-start.true
 
 offset_bounds-starts-p : tie.Need-offset_bounds-starts-p invariant-loop-p decreases-loop-p
 offset_bounds-starts-p c = omega (arith, below c)
 
 bounds-starts-p : tie.Need-bounds-starts-p invariant-loop-p decreases-loop-p
-bounds-starts-p c = below c
+bounds-starts-p c = below c.before
 
 offset_bounds-wanted-p : tie.Need-offset_bounds-wanted-p invariant-loop-p decreases-loop-p
-offset_bounds-wanted-p c = omega (arith, below c.before.before)
+offset_bounds-wanted-p c = omega (arith, below c.before.before.before)
 
 bounds-wanted-p : tie.Need-bounds-wanted-p invariant-loop-p decreases-loop-p
-bounds-wanted-p c = below c.before.before
+bounds-wanted-p c = below c.before.before.before.before
 
 overflow_cast-start : tie.Need-overflow_cast-start invariant-loop-p decreases-loop-p
 overflow_cast-start c = omega (arith, near c)
@@ -67,7 +67,7 @@ overflow_cast-start c = omega (arith, near c)
 put-requires : tie.Need-put-requires invariant-loop-p decreases-loop-p
 put-requires c κs =
     let a = c.before.before in
-    let i = a.before.before.before.before in
+    let i = a.before.before.before.before.before.before in
     let t = i.loop-p.invariant.1 in
     let free = start_is i ∙ a.if-starts-p.true in
     record {
@@ -79,14 +79,14 @@ put-requires c κs =
     }
 
 overflow_add-p : tie.Need-overflow_add-p invariant-loop-p decreases-loop-p
-overflow_add-p c = omega (arith, below c.before.before)
+overflow_add-p c = omega (arith, below c.before.before.before)
 
 loop-p-smaller : tie.Need-loop-p-smaller invariant-loop-p decreases-loop-p
 loop-p-smaller c = omega arith
 
 loop-p-preserved : tie.Need-loop-p-preserved invariant-loop-p decreases-loop-p
 loop-p-preserved c =
-    let i = c.before.before in
+    let i = c.before.before.before in
     let t = i.loop-p.invariant.1 in (
       omega arith,
       ⊎_elim

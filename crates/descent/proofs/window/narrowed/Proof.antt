@@ -41,31 +41,31 @@ offset_bounds-starts-to : tie.Need-offset_bounds-starts-to
 offset_bounds-starts-to c = omega (arith, few (start c.before.before.before))
 
 bounds-starts-to : tie.Need-bounds-starts-to
-bounds-starts-to c = omega (arith, few (start c.before.before.before))
+bounds-starts-to c = omega (arith, few (start c.before.before.before.before))
 
 -- an earlier operation's start is below 4,096
 early : (s : tie.Start) (p : ℕ) → p < s.args.op → get_or s.args.starts.now p 0 < 4096
 early s = s.requires.4
 
 overflow_cast-starts : tie.Need-overflow_cast-starts
-overflow_cast-starts c = let v = c.before in omega (arith, early (start v.before.before.before) v.target-to.result v.if-to-op-2.true)
+overflow_cast-starts c = let v = c.before.before in omega (arith, early (start v.before.before.before) v.target-to.result v.if-to-op-2.true)
 
 too_late-end-requires : tie.Need-too_late-end-requires
 too_late-end-requires c κs =
-    let v = c.before in
+    let v = c.before.before in
     let s = start v.before.before.before in
     (s.requires.0, s.requires.1, early s _ v.if-to-op-2.true, s.requires.5)
 
 returns-then-end-w : tie.Need-returns-then-end-w
 returns-then-end-w c =
     let b = c.before.before in
-    let v = b.before.before in
+    let v = b.before.before.before in
     source_late (ends v.before.before.before) _ v.if-from-op.true v.if-to-op-2.true b.too_late-end.ensures c.if-end-w.true
 
 returns-else-end-w : tie.Need-returns-else-end-w
 returns-else-end-w c =
     let b = c.before.before in
-    let v = b.before.before in
+    let v = b.before.before.before in
     source_kept (ends v.before.before.before) _ v.if-from-op.true v.if-to-op-2.true b.too_late-end.ensures c.if-end-w.false
 
 returns-else-to-op-2 : tie.Need-returns-else-to-op-2
@@ -75,27 +75,27 @@ offset_bounds-starts-from : tie.Need-offset_bounds-starts-from
 offset_bounds-starts-from c = omega (arith, few (start c.before.before.before))
 
 bounds-starts-from : tie.Need-bounds-starts-from
-bounds-starts-from c = omega (arith, few (start c.before.before.before))
+bounds-starts-from c = omega (arith, few (start c.before.before.before.before))
 
 overflow_cast-starts-then-from-op-2 : tie.Need-overflow_cast-starts-then-from-op-2
-overflow_cast-starts-then-from-op-2 c = let v = c.before in omega (arith, early (start v.before.before.before) v.source-from.result v.if-from-op-2.true)
+overflow_cast-starts-then-from-op-2 c = let v = c.before.before in omega (arith, early (start v.before.before.before) v.source-from.result v.if-from-op-2.true)
 
 earliest-begin-requires : tie.Need-earliest-begin-requires
 earliest-begin-requires c κs =
-    let v = c.before in
+    let v = c.before.before in
     let s = start v.before.before.before in
     (s.requires.0, s.requires.1, early s _ v.if-from-op-2.true, s.requires.5)
 
 returns-then-w-begin : tie.Need-returns-then-w-begin
 returns-then-w-begin c =
     let b = c.before.before in
-    let v = b.before.before in
+    let v = b.before.before.before in
     target_early (ends v.before.before.before) _ v.if-from-op-2.true v.if-to-op-3.true b.earliest-begin.ensures c.if-w-begin.true
 
 returns-else-w-begin : tie.Need-returns-else-w-begin
 returns-else-w-begin c =
     let b = c.before.before in
-    let v = b.before.before in
+    let v = b.before.before.before in
     target_kept (ends v.before.before.before) _ v.if-from-op-2.true v.if-to-op-3.true b.earliest-begin.ensures c.if-w-begin.false
 
 returns-else-from-op-2 : tie.Need-returns-else-from-op-2

@@ -32,7 +32,7 @@ offset_bounds-links-op : tie.Need-offset_bounds-links-op invariant-loop-e decrea
 offset_bounds-links-op c = let s = c.before.before in omega (arith, s.requires.2, (ok s).few)
 
 bounds-links-op : tie.Need-bounds-links-op invariant-loop-e decreases-loop-e
-bounds-links-op c = let s = c.before.before in omega (arith, s.requires.2, (ok s).few)
+bounds-links-op c = let s = c.before.before.before in omega (arith, s.requires.2, (ok s).few)
 
 -- the entry of the operation
 first : (c : tie.After-dep_count-m invariant-loop-e decreases-loop-e)
@@ -40,11 +40,11 @@ first : (c : tie.After-dep_count-m invariant-loop-e decreases-loop-e)
 first c = let s = c.before.before in s.requires.1.head s.args.op s.requires.2
 
 overflow_cast-e : tie.Need-overflow_cast-e invariant-loop-e decreases-loop-e
-overflow_cast-e c = omega (arith, (first c.before).within, (ok c.before.before.before).sparse)
+overflow_cast-e c = omega (arith, (first c.before.before).within, (ok c.before.before.before.before).sparse)
 
 loop-e-init : tie.Need-loop-e-init invariant-loop-e decreases-loop-e
 loop-e-init c =
-    let d = c.before in
+    let d = c.before.before in
     let s = d.before.before in
     let n = first d in (
       omega (arith, n.within, d.dep_count-m.ensures),
@@ -53,7 +53,7 @@ loop-e-init c =
     )
 
 abbrev start : tie.At-loop-e invariant-loop-e decreases-loop-e → tie.Start invariant-loop-e decreases-loop-e
-start h = h.before.before.before.before
+start h = h.before.before.before.before.before
 
 -- e is a dependence
 here : (c : tie.In-loop-e invariant-loop-e decreases-loop-e) → c.loop-e.e < length (loop_of (start c.before).args.file.now).deps
@@ -73,7 +73,7 @@ offset_bounds-links-e : tie.Need-offset_bounds-links-e invariant-loop-e decrease
 offset_bounds-links-e c = omega (arith, small c.before)
 
 bounds-links-e : tie.Need-bounds-links-e invariant-loop-e decreases-loop-e
-bounds-links-e c = omega (arith, small c.before)
+bounds-links-e c = omega (arith, small c.before.before)
 
 -- the entry of e: its later operation is op
 next : (c : tie.In-loop-e invariant-loop-e decreases-loop-e)
@@ -86,14 +86,14 @@ next c =
     subst (λ (o : ℕ). NextDep (loop_of s.args.file.now) o (h.loop-e.e + 1) (get_or s.args.links.now (64 + h.loop-e.e) 0)) (h.loop-e.invariant.1 c.loop-e-test.true) (s.requires.1.next h.loop-e.e (here c))
 
 overflow_cast-e-in-loop-e : tie.Need-overflow_cast-e-in-loop-e invariant-loop-e decreases-loop-e
-overflow_cast-e-in-loop-e c = let i = c.before.before in omega (arith, (next i).within, (ok (start i.before)).sparse)
+overflow_cast-e-in-loop-e c = let i = c.before.before.before in omega (arith, (next i).within, (ok (start i.before)).sparse)
 
 loop-e-smaller : tie.Need-loop-e-smaller invariant-loop-e decreases-loop-e
-loop-e-smaller c = let i = c.before.before in omega (arith, (next i).behind, i.loop-e-test.true)
+loop-e-smaller c = let i = c.before.before.before in omega (arith, (next i).behind, i.loop-e-test.true)
 
 loop-e-preserved : tie.Need-loop-e-preserved invariant-loop-e decreases-loop-e
 loop-e-preserved c =
-    let i = c.before.before in
+    let i = c.before.before.before in
     let h = i.before in
     let s = start h in
     let m = h.dep_count-m.ensures in (

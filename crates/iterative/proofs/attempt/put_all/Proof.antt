@@ -39,13 +39,13 @@ pick-op-requires c κs =
     (omega (arith, (entry a).requires.1, few_operations (entry a).args.file.now b.accepted), b.sane.whole)
 
 shape_of-rows-then-op-n : tie.Need-shape_of-rows-then-op-n invariant-loop-ranks decreases-loop-ranks
-shape_of-rows-then-op-n c = as_long c.before.before.before.before
+shape_of-rows-then-op-n c = as_long c.before.before.before
 
 returns-then-op-n : tie.Need-returns-then-op-n invariant-loop-ranks decreases-loop-ranks
 returns-then-op-n c = record { kept = c.loop.invariant; all = λ e. c.pick-op.ensures.none_left c.if-op-n.true }
 
 shape_of-rows-then-left-eq0 : tie.Need-shape_of-rows-then-left-eq0 invariant-loop-ranks decreases-loop-ranks
-shape_of-rows-then-left-eq0 c = as_long c.before.before.before.before.before
+shape_of-rows-then-left-eq0 c = as_long c.before.before.before.before
 
 returns-then-left-eq0 : tie.Need-returns-then-left-eq0 invariant-loop-ranks decreases-loop-ranks
 returns-then-left-eq0 c = record { kept = c.loop.invariant; all = λ e. true_false (sym e) }

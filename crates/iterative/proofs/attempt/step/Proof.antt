@@ -15,7 +15,7 @@ offset_bounds-again-op : tie.Need-offset_bounds-again-op
 offset_bounds-again-op c = omega (arith, inside c.before.before)
 
 bounds-again-op : tie.Need-bounds-again-op
-bounds-again-op c = inside c.before.before
+bounds-again-op c = inside c.before.before.before
 
 wide-requires : tie.Need-wide-requires
 wide-requires c κs = omega arith

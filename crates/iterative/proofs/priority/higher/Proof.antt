@@ -22,12 +22,12 @@ bounds-ranks-o c = omega arith
 
 returns-then-ranks-best : tie.Need-returns-then-ranks-best
 returns-then-ranks-best c =
-    let s = c.before.before.before.before in
+    let s = c.before.before.before.before.before in
     rw (ne_eqb s.args.best s.args.n c.if-best-n.false, lt-ltb (get_or s.args.ranks.now s.args.best 0) (get_or s.args.ranks.now s.args.o 0) c.if-ranks-best.true)
 
 returns : tie.Need-returns
 returns c =
-    let s = c.before.before.before.before in
+    let s = c.before.before.before.before.before in
     rw (ne_eqb s.args.best s.args.n c.if-best-n.false, le-ltb (get_or s.args.ranks.now s.args.best 0) (get_or s.args.ranks.now s.args.o 0) c.if-ranks-best.false)
 
 pub higher_spec : {M : Type 1} → statement M

@@ -26,7 +26,7 @@ bounds-starts-o : tie.Need-bounds-starts-o invariant-loop-o decreases-loop-o
 bounds-starts-o c = omega arith
 
 higher-best-requires : tie.Need-higher-best-requires invariant-loop-o decreases-loop-o
-higher-best-requires c κs = let a = c.before.before.before in (a.requires.0, pick_within a.loop-o.invariant.1 a.loop-o.invariant.0, omega arith)
+higher-best-requires c κs = let a = c.before.before.before.before in (a.requires.0, pick_within a.loop-o.invariant.1 a.loop-o.invariant.0, omega arith)
 
 overflow_add-o : tie.Need-overflow_add-o invariant-loop-o decreases-loop-o
 overflow_add-o c = omega arith
@@ -40,7 +40,7 @@ here i = let a = i.before in get_or_within a.args.starts.now a.loop-o.o 0 65535 
 
 loop-o-preserved : tie.Need-loop-o-preserved invariant-loop-o decreases-loop-o
 loop-o-preserved c =
-    let i = c.before.before in
+    let i = c.before.before.before in
     let p = i.loop-o.invariant.1 in
     ⊎_elim
     (λ w. rw w.2 (omega arith, pick_next p (omega arith) (sym (here i) ∙ w.0.taken) w.1.ensures))

@@ -36,7 +36,7 @@ offset_bounds-lengths-far : tie.Need-offset_bounds-lengths-far
 offset_bounds-lengths-far c = omega (arith, far_inside c.before.before)
 
 bounds-lengths-far : tie.Need-bounds-lengths-far
-bounds-lengths-far c = far_inside c.before.before
+bounds-lengths-far c = far_inside c.before.before.before
 
 wide-requires : tie.Need-wide-requires
 wide-requires c κs = omega arith
@@ -48,7 +48,7 @@ earliest-v-requires : tie.Need-earliest-v-requires
 earliest-v-requires c κs = let p = c.requires in (p.0, p.1, omega arith, p.2)
 
 raise-requires : tie.Need-raise-requires
-raise-requires c κs = near_inside c.before.before.before.before.before.before
+raise-requires c κs = near_inside c.before.before.before.before.before.before.before
 
 returns : tie.Need-returns
 returns c = tt

@@ -38,15 +38,15 @@ offset_bounds-starts-from : tie.Need-offset_bounds-starts-from
 offset_bounds-starts-from c = omega (arith, inside c)
 
 bounds-starts-from : tie.Need-bounds-starts-from
-bounds-starts-from c = inside c
+bounds-starts-from c = inside c.before
 
 wide-start-requires : tie.Need-wide-start-requires
 wide-start-requires c κs = omega arith
 
 -- its start
-start_is : (c : tie.After-wide-start) → let s = entry c.before.before in get_or s.args.starts.now (dep_at (loop_of s.args.file.now) s.args.e).src 65535 ≡ c.wide-start.result
+start_is : (c : tie.After-wide-start) → let s = entry c.before.before.before in get_or s.args.starts.now (dep_at (loop_of s.args.file.now) s.args.e).src 65535 ≡ c.wide-start.result
 start_is c =
-    let k = c.before.before in
+    let k = c.before.before.before in
     let s = entry k in
     ap (λ (o : ℕ). get_or s.args.starts.now o 65535) (sym k.source-from.ensures)
     ∙ get_or_within s.args.starts.now k.source-from.result 65535 0 (omega (arith, inside k, s.requires.3.whole))
@@ -58,14 +58,14 @@ returns-then-start-eq65535 c = due_blank (start_is c.before ∙ c.if-start-eq655
 earliest-requires : tie.Need-earliest-requires
 earliest-requires c κs =
     let w = c.before in
-    let s = entry w.before.before in
+    let s = entry w.before.before.before in
     (s.requires.0, s.requires.1, rw (start_is w) at (sane_near s.requires.3 _ (λ q. c.if-start-eq65535.false (sym (start_is w) ∙ q))), s.requires.2)
 
 returns : tie.Need-returns
 returns c =
     let e = c.before in
     let w = e.before in
-    let k = w.before.before in
+    let k = w.before.before.before in
     let t = k.before.before.before in
     due_placed (sym t.target.ensures ∙ k.if-target-op.false) (λ q. k.if-from-op.false (k.source-from.ensures ∙ q)) (start_is w) e.if-start-eq65535.false c.earliest.ensures
 

@@ -22,7 +22,7 @@ four old tag at h =
 -- and the first word
 module _ (c : tie.After-word) where
   abbrev a : tie.Start
-  a = c.before.before.before.before.before.before.before
+  a = c.before.before.before.before.before.before.before.before
 
   six : Stored a.args.buffer.now a.args.at (four_of a.args.tag.now ++ word a.args.start) c.word.new.0
   six =
@@ -31,7 +31,7 @@ module _ (c : tie.After-word) where
 -- and the second
 module _ (c : tie.After-word-2) where
   abbrev b : tie.Start
-  b = a c.before.before.before.before
+  b = a c.before.before.before.before.before.before.before.before.before.before.before.before
 
   eight : Stored b.args.buffer.now b.args.at (entry_bytes (four_of b.args.tag.now) b.args.start b.args.long) c.word-2.new.0
   eight = next_stored (b.args.at + 6) (word b.args.long) (six c.before.before.before.before) (omega arith) (omega arith) c.word-2.ensures

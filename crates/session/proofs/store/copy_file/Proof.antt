@@ -34,7 +34,7 @@ loop-i-smaller c = omega arith
 
 loop-i-preserved : tie.Need-loop-i-preserved invariant-loop-i decreases-loop-i
 loop-i-preserved c =
-    let g = c.before.before in
+    let g = c.before.before.before in
     let f = g.args.file.now in
     let old = g.args.store.now in
     let j = g.loop-i.i in

@@ -36,7 +36,7 @@ entry c = c.before.before.before
 
 overflow_add-used : tie.Need-overflow_add-used invariant-loop-k decreases-loop-k
 overflow_add-used c =
-    let s = entry c.before.before in
+    let s = entry c.before.before.before in
     let l = c.loop-k in
     omega (arith, l.invariant.1.left l.k (omega arith), s.requires.1.low l.k (omega arith), c.total_on.ensures, total_few s.args.file.now s.requires.0 (l.k + 1))
 
@@ -54,7 +54,7 @@ loop-k-smaller c = omega arith
 
 loop-k-preserved : tie.Need-loop-k-preserved invariant-loop-k decreases-loop-k
 loop-k-preserved c =
-    let s = entry c.before.before in
+    let s = entry c.before.before.before in
     let l = c.loop-k in
     let g : ℕ → ℕ = total_on (loop_of s.args.file.now) in (
       omega arith,

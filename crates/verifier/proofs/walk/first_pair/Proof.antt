@@ -218,7 +218,7 @@ loop-j-preserved c =
     (omega arith, h.loop-k.invariant.1, below_more _ i.loop-j.j i.loop-j.invariant.2 (λ k l. h.loop-k.invariant.2 k (omega (arith, lasts h.before))))
 
 overflow_add-b : tie.Need-overflow_add-b invariant-loop-k decreases-loop-k invariant-loop-j decreases-loop-j invariant-loop-b decreases-loop-b invariant-pairs decreases-pairs
-overflow_add-b c = omega (arith, (turn2 c.before).op_count-n.ok)
+overflow_add-b c = omega (arith, (turn2 c.before).op_count-n.type_inv)
 
 loop-b-smaller : tie.Need-loop-b-smaller invariant-loop-k decreases-loop-k invariant-loop-j decreases-loop-j invariant-loop-b decreases-loop-b invariant-pairs decreases-pairs
 loop-b-smaller c = omega arith
@@ -238,7 +238,7 @@ loop-b-preserved c =
     )
 
 overflow_add-a : tie.Need-overflow_add-a invariant-loop-k decreases-loop-k invariant-loop-j decreases-loop-j invariant-loop-b decreases-loop-b invariant-pairs decreases-pairs
-overflow_add-a c = omega (arith, (turn c.before).op_count-n.ok)
+overflow_add-a c = omega (arith, (turn c.before).op_count-n.type_inv)
 
 pairs-smaller : tie.Need-pairs-smaller invariant-loop-k decreases-loop-k invariant-loop-j decreases-loop-j invariant-loop-b decreases-loop-b invariant-pairs decreases-pairs
 pairs-smaller c = omega arith
@@ -248,7 +248,7 @@ pairs-preserved c =
     let p = (turn c.before).before in (
       omega arith,
       c.loop-b.invariant.2,
-      below_more _ p.pairs.a p.pairs.inv.2
+      below_more _ p.pairs.a p.pairs.invariant.2
           (λ d l m. c.loop-b.invariant.3 d (omega (arith, p.before.op_count.ensures)) l),
     )
 
@@ -267,7 +267,7 @@ returns-then-meets c =
     let q = h.before.before.before.before in
     let i = h.before.before in
     sym (walk_found (the-loop p) (loop_ok p) s.args.interval s.args.starts.now s.requires.1 p.pairs.a q.loop-b.b i.loop-j.j h.loop-k.k
-    q.loop-b.invariant.0 (second_in q) (inside i) (omega (arith, lasts h.before)) (told c.before ∙ c.if-meets.true) p.pairs.inv.2 q.loop-b.invariant.3)
+    q.loop-b.invariant.0 (second_in q) (inside i) (omega (arith, lasts h.before)) (told c.before ∙ c.if-meets.true) p.pairs.invariant.2 q.loop-b.invariant.3)
 
 pub first_pair_spec : {M : Type 1} → statement M
 first_pair_spec =
