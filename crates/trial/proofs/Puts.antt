@@ -1,5 +1,5 @@
 -- Bytes put one after the other: a law on lists. Assumes nothing.
-use Rattle.std.proofs.Common.{◌≡◌, ℕ, zero, suc, ◌+◌, ◌<◌, List, [], ◌∷◌, ◌++◌, length, get_or, take, set, sym, ap, ◌∙◌, add-one, arith, length-take-le, take-suc}
+use Rattle.std.proofs.Common.{◌≡◌, ℕ, suc, ◌+◌, ◌<◌, List, [], ◌∷◌, ◌++◌, length, get_or, take, set, sym, ap, ◌∙◌, add-one, arith, length-take-le, take-suc}
 use native.Mathlib.Decide.{dec_lt}
 use lib.ListN.{get_or-eq_default}
 use Rattle.trial.specs.Loops.{files, loop_file}
@@ -23,25 +23,12 @@ put_file n old {k} {r} {new} {bytes} e b p =
     let same : bytes ≡ loop_file k = b ∙ ap loop_file (sym e) in
     (p.0 ∙ ap length same, p.1 ∙ ap (sets old 0) same)
 
--- k is none of the numbers from 1 to n
-abbrev Passed : ℕ → ℕ → Type 0
-Passed zero k = Unit
-Passed (suc n) k = Passed n k × (k ≡ suc n → ⊥)
-
--- so it is beyond them, or 0
-beyond : (n k : ℕ) → Passed n k → 0 < k → n < k
-beyond zero k p h = h
-beyond (suc n) k p h =
-    let l : n < k = beyond n k p.0 h in
-    let e : k ≡ suc n → ⊥ = p.1 in
-    omega arith
-
 -- a number that no loop has: nothing is put
-none_there : (k : ℕ) → Passed 14 k → Dec (0 < k) → get_or files k [] ≡ []
-none_there k p (yes l) = get_or-eq_default files [] {n = k} (beyond 14 k p l)
+none_there : (k : ℕ) → (0 < k → 14 < k) → Dec (0 < k) → get_or files k [] ≡ []
+none_there k p (yes l) = get_or-eq_default files [] {n = k} (p l)
 none_there k p (no g) = let e : k ≡ 0 = omega arith in ap (λ (n : ℕ). get_or files n []) e
 
-pub no_file : (k : ℕ) (old : List ℕ) → Passed 14 k → (0 ≡ length (loop_file k)) × (old ≡ sets old 0 (loop_file k))
+pub no_file : (k : ℕ) (old : List ℕ) → (0 < k → 14 < k) → (0 ≡ length (loop_file k)) × (old ≡ sets old 0 (loop_file k))
 unfolding loop_file
 no_file k old p =
     let none : get_or files k [] ≡ [] = none_there k p (dec_lt 0 k) in

@@ -1,5 +1,5 @@
 -- The worked loops as files, by number: what `loops::put_loop` puts. Assumes nothing.
-use Rattle.std.specs.Prelude.{ℕ, zero, suc, ◌-◌, cond, List, [], ◌∷◌, ◌++◌, set, replicate, nat_lt, slice_index_or, slice_set}
+use Rattle.std.specs.Prelude.{ℕ, zero, suc, ◌-◌, cond, List, [], ◌∷◌, ◌++◌, replicate, nat_lt, slice_index_or, slice_set}
 use Rattle.model.specs.Writer.{file_with}
 use Rattle.model.specs.Cases.{file_a, file_b, file_b2, file_c, ring, four}
 

@@ -18,7 +18,7 @@ returns : tie.Need-returns
 unfolding legal_as legal_in
 returns c =
     let w = c.before.before in
-    rw (← w.word-w.ensures, le-ltb _ _ w.if-w-gt0.false) c.fits2.ensures
+    rw (← w.word-w.ensures, le-ltb _ _ w.if-w-gt0.false) c.fits.ensures
 
 pub legal_spec : {M : Type 1} → statement M
 legal_spec = tie.close (tie.spec word-w-requires returns-then-w-gt0 fits-requires returns)

@@ -35,8 +35,8 @@ loop-op-preserved c =
     let so_far = c.loop-op.invariant.1 in (
       omega arith,
       ⊎_elim
-          (λ w. rw (add-one, ne_eqb _ _ w.0.taken, ← so_far, w.3) w.2.ensures)
-          (λ w. rw (add-one, eq-eqb _ _ w.0.left, ← so_far) w.1)
+          (λ w. rw (add-one, ne_eqb _ _ w.if-s.true, ← so_far, w.picture-is) w.add.ensures)
+          (λ w. rw (add-one, eq-eqb _ _ w.if-s.false, ← so_far) w.picture-is)
           c.if-s.branch-raw,
     )
 

@@ -67,7 +67,7 @@ loop-i-preserved c =
     let more : 48 - l.loop-i.i ≡ suc (48 - (l.loop-i.i + 1)) = omega arith in
     let up : l.loop-i.i + 1 ≤ 48 = omega arith in
     let next = place_next _ _ _ _ _ _ _ more c.meets.ensures c.if-meets.false c.if-own.cells in
-    (up, l.loop-i.invariant.1 ∙ next (⊎_elim (λ w. rw (w.0.taken, w.3) w.2.ensures) (λ w. rw w.0.left w.1) c.if-own.branch-raw))
+    (up, l.loop-i.invariant.1 ∙ next (⊎_elim (λ w. rw (w.if-own.true, w.cells-is) w.cover.ensures) (λ w. rw w.if-own.false w.cells-is) c.if-own.branch-raw))
 
 returns : tie.Need-returns invariant-loop-i decreases-loop-i
 returns c =

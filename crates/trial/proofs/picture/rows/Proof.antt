@@ -53,8 +53,8 @@ loop-r-preserved c =
     let so_far = c.loop-r.invariant.1 in (
       omega arith,
       ⊎_elim
-          (λ w. rw (add-one, lt-ltb _ _ w.0.taken, ← so_far, ← w.1.ensures.0, ← w.2.ensures.0, ← w.3.ensures.0) w.4)
-          (λ w. rw (add-one, le-ltb _ _ w.0.left, ← so_far) w.1)
+          (λ w. rw (add-one, lt-ltb _ _ w.if-r-n.true, ← so_far, ← w.worth.ensures.0, ← w.worth-then-r-n.ensures.0, ← w.worth-then-r-n-2.ensures.0) w.out-is)
+          (λ w. rw (add-one, le-ltb _ _ w.if-r-n.false, ← so_far) w.out-is)
           c.if-r-n.branch-raw,
     )
 
