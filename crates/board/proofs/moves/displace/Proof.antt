@@ -31,7 +31,7 @@ is_free-free-requires : tie.Need-is_free-free-requires invariant-loop-p decrease
 is_free-free-requires c κs =
     let s = c.before.before.before.before.before in
     let b = s.requires.0 in
-    (b.accepted, s.requires.1, omega (arith, s.requires.3), b.numbers.some, b.numbers.short, b.held.long, c.first-use.ensures)
+    (b.accepted, s.requires.1, omega (arith, s.requires.3), b.numbers.some, b.numbers.short, b.held.long, c.first_use.ensures)
 
 op_count-n-requires : tie.Need-op_count-n-requires invariant-loop-p decreases-loop-p
 op_count-n-requires c κs = c.requires.0.accepted
@@ -55,10 +55,10 @@ below c = omega (arith, inside c, few_operations (entry c).args.file.now (entry 
 
 in_the_way-requires : tie.Need-in_the_way-requires invariant-loop-p decreases-loop-p
 in_the_way-requires c κs =
-    let i = c.before.before in
+    let i = c.before in
     let s = entry i in
     let b = s.requires.0 in
-    let t = i.loop.invariant.1 in
+    let t = i.loop-p.invariant.1 in
     record {
       accepted = b.accepted;
       numbers = b.numbers;
@@ -67,16 +67,16 @@ in_the_way-requires c κs =
       inside_p = inside i;
       near = s.requires.3;
       blank = clear_open b s.requires.2 t;
-      hit = clear_hit b s.requires.2 t (inside i) i.mark-broken.ensures;
-      apart = λ e. clear_free b s.requires.2 t s.requires.1 (inside i) (i.is_free.ensures.yes e);
+      hit = clear_hit b s.requires.2 t (inside i) i.mark_broken.ensures;
+      apart = λ e. clear_free b s.requires.2 t s.requires.1 (inside i) (i.is_free-free.ensures.yes e);
     }
 
 lift-requires : tie.Need-lift-requires invariant-loop-p decreases-loop-p
 lift-requires c κs =
     let a = c.before.before in
-    let i = a.before.before.before.before in
+    let i = a.before.before.before in
     let s = entry i in
-    let t = i.loop.invariant.1 in
+    let t = i.loop-p.invariant.1 in
     (t.board, inside i, clear_placed s.requires.0 s.requires.2 t (sym a.in_the_way.ensures ∙ a.if-in_the_way.true))
 
 overflow_shl-mask : tie.Need-overflow_shl-mask invariant-loop-p decreases-loop-p
@@ -91,13 +91,13 @@ loop-p-smaller c = omega arith
 loop-p-preserved : tie.Need-loop-p-preserved invariant-loop-p decreases-loop-p
 loop-p-preserved c =
     let a = c.before in
-    let i = a.before.before.before in
+    let i = a.before.before in
     let s = entry i in
-    let t = i.loop.invariant.1 in (
+    let t = i.loop-p.invariant.1 in (
       omega arith,
       ⊎_elim
-          (λ w. rw (w.6, w.7, w.8) (clear_lift s.requires.0 s.requires.2 t (below i) (sym a.in_the_way.ensures ∙ w.0.taken) w.3.ensures))
-          (λ w. rw (w.1, w.2, w.3) (clear_keep s.requires.0 s.requires.2 t (sym a.in_the_way.ensures ∙ w.0.left)))
+          (λ w. rw (w.starts-is, w.rows-is, w.mask-is) (clear_lift s.requires.0 s.requires.2 t (below i) (sym a.in_the_way.ensures ∙ w.if-in_the_way.true) w.lift.ensures))
+          (λ w. rw (w.starts-is, w.rows-is, w.mask-is) (clear_keep s.requires.0 s.requires.2 t (sym a.in_the_way.ensures ∙ w.if-in_the_way.false)))
           c.if-in_the_way.branch-raw,
     )
 

@@ -71,10 +71,10 @@ loop-p-preserved c =
     let l : i.loop-p.p < length i.loop-p.starts = omega (arith, below i, t.board.sane.whole) in (
       omega arith,
       ⊎_elim
-          (λ w. rw (w.8, w.9) (thin_lift t l (λ e. w.2.taken (sym (start_is i) ∙ e ∙ wanted_is i)) w.5.ensures))
+          (λ w. rw (w.starts-is, w.rows-is) (thin_lift t l (λ e. w.if-start-wanted.true (sym (start_is i) ∙ e ∙ wanted_is i)) w.lift.ensures))
           (λ v. ⊎_elim
-          (λ w. rw (w.3, w.4) (thin_keep t (inr (start_is i ∙ w.2.left ∙ sym (wanted_is i)))))
-          (λ w. rw (w.1, w.2) (thin_keep t (inl (start_is i ∙ w.0.left)))) v)
+          (λ w. rw (w.starts-is, w.rows-is) (thin_keep t (inr (start_is i ∙ w.if-start-wanted.false ∙ sym (wanted_is i)))))
+          (λ w. rw (w.starts-is, w.rows-is) (thin_keep t (inl (start_is i ∙ w.if-start.false)))) v)
           c.if-start.branch-raw,
     )
 

@@ -77,10 +77,10 @@ loop-e-preserved c =
     let h = i.loop-e.invariant.1 in (
       omega arith,
       ⊎_elim
-          (λ w. rw w.4 (mark_target h w.3.result (omega (arith, (dep_ok i).target, few i, w.3.ensures)) w.3.ensures (sym b.breaks_at.ensures ∙ w.0.taken) (sym w.1.ensures ∙ w.2.taken)))
+          (λ w. rw w.hits-is (mark_target h w.target-to.result (omega (arith, (dep_ok i).target, few i, w.target-to.ensures)) w.target-to.ensures (sym b.breaks_at.ensures ∙ w.if-breaks_at.true) (sym w.source-from.ensures ∙ w.if-from-op.true)))
           (λ v. ⊎_elim
-          (λ w. rw w.3 (mark_source h w.1.result (omega (arith, (dep_ok i).source, few i, w.1.ensures)) w.1.ensures (sym b.breaks_at.ensures ∙ w.0.taken) (λ e. w.2.left (w.1.ensures ∙ e))))
-          (λ w. rw w.1 (mark_skip h (sym b.breaks_at.ensures ∙ w.0.left))) v)
+          (λ w. rw w.hits-is (mark_source h w.source-from.result (omega (arith, (dep_ok i).source, few i, w.source-from.ensures)) w.source-from.ensures (sym b.breaks_at.ensures ∙ w.if-breaks_at.true) (λ e. w.if-from-op.false (w.source-from.ensures ∙ e))))
+          (λ w. rw w.hits-is (mark_skip h (sym b.breaks_at.ensures ∙ w.if-breaks_at.false))) v)
           c.if-breaks_at.branch-raw,
     )
 

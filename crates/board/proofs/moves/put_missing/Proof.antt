@@ -90,11 +90,11 @@ loop-p-preserved c =
     let t = i.loop-p.invariant.1 in (
       omega arith,
       ⊎_elim
-          (λ w. rw (w.8, w.9)
-          (fill_put t (get_or (entry i).args.wanted.now i.loop-p.p 0) (entry i).requires.1 (inside i) (start_is i ∙ w.0.taken) (wanted_is i) w.2.taken w.5.ensures))
+          (λ w. rw (w.starts-is, w.rows-is)
+          (fill_put t (get_or (entry i).args.wanted.now i.loop-p.p 0) (entry i).requires.1 (inside i) (start_is i ∙ w.if-starts-p.true) (wanted_is i) w.if-start.true w.put.ensures))
           (λ v. ⊎_elim
-          (λ w. rw (w.3, w.4) (fill_blank t (start_is i ∙ w.0.taken) (wanted_is i ∙ w.2.left)))
-          (λ w. rw (w.1, w.2) (fill_placed t (λ e. w.0.left (sym (start_is i) ∙ e)))) v)
+          (λ w. rw (w.starts-is, w.rows-is) (fill_blank t (start_is i ∙ w.if-starts-p.true) (wanted_is i ∙ w.if-start.false)))
+          (λ w. rw (w.starts-is, w.rows-is) (fill_placed t (λ e. w.if-starts-p.false (sym (start_is i) ∙ e)))) v)
           c.if-starts-p.branch-raw,
     )
 

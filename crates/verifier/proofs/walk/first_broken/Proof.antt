@@ -104,7 +104,7 @@ returns-then-not-dep_holds : tie.Need-returns-then-not-dep_holds invariant-loop-
 unfolding first_broken
 returns-then-not-dep_holds c =
     let i = c.before.before.before.before.before.before in
-    sym (row_first (test (loop i) (start i).args.interval (starts i)) (length (loop i).deps) i.loop-e.e (known i) i.loop-e.invariant.1 (tested c.before ∙ c.if-not-dep_holds.true))
+    sym (row_first (test (loop i) (start i).args.interval (starts i)) (length (loop i).deps) i.loop-e.e (known i) i.loop-e.invariant.1 (tested c.before ∙ ap not c.if-not-dep_holds.true))
 
 overflow_add-e : tie.Need-overflow_add-e invariant-loop-e decreases-loop-e
 overflow_add-e c =
@@ -119,7 +119,7 @@ loop-e-smaller c =
 loop-e-preserved : tie.Need-loop-e-preserved invariant-loop-e decreases-loop-e
 loop-e-preserved c =
     let i = c.before.before.before.before.before.before in
-    (omega (arith, known i), below_next (test (loop i) (start i).args.interval (starts i)) i.loop-e.e i.loop-e.invariant.1 (tested c.before ∙ c.if-not-dep_holds.false))
+    (omega (arith, known i), below_next (test (loop i) (start i).args.interval (starts i)) i.loop-e.e i.loop-e.invariant.1 (tested c.before ∙ ap not c.if-not-dep_holds.false))
 
 returns : tie.Need-returns invariant-loop-e decreases-loop-e
 unfolding first_broken

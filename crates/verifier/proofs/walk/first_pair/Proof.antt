@@ -249,7 +249,7 @@ pairs-preserved c =
       omega arith,
       c.loop-b.invariant.2,
       below_more _ p.pairs.a p.pairs.invariant.2
-          (λ d l m. c.loop-b.invariant.3 d (omega (arith, p.before.op_count.ensures)) l),
+          (λ d l m. c.loop-b.invariant.3 d (omega (arith, p.op_count-n.ensures)) l),
     )
 
 returns-after-pairs : tie.Need-returns-after-pairs invariant-loop-k decreases-loop-k invariant-loop-j decreases-loop-j invariant-loop-b decreases-loop-b invariant-pairs decreases-pairs
