@@ -63,8 +63,8 @@ loop-left-preserved c =
       omega (arith, below i),
       ap (λ (n : ℕ). n / 2) h.1 ∙ shr-shr s.args.mask p 1,
       ⊎_elim
-          (λ w. rw w.3 (moved_more (λ t. named_set l s.args.mask p t (sym (bit i) ∙ w.0.taken)) h.2 w.2.ensures))
-          (λ w. rw w.1 (moved_more {b = λ t. 0} (λ t. named_clear l s.args.mask p t (λ e. w.0.left (bit i ∙ e))) h.2 (moved_none h.2.whole (λ t. refl))))
+          (λ w. rw w.free-is (moved_more (λ t. named_set l s.args.mask p t (sym (bit i) ∙ w.if-left-eq1.true)) h.2 w.count.ensures))
+          (λ w. rw w.free-is (moved_more {b = λ t. 0} (λ t. named_clear l s.args.mask p t (λ e. w.if-left-eq1.false (bit i ∙ e))) h.2 (moved_none h.2.whole (λ t. refl))))
           c.if-left-eq1.branch-raw,
     )
 

@@ -18,32 +18,21 @@ shape_of-rows-in_default c = search rules
 
 returns-in_default : tie.Need-returns-in_default
 returns-in_default c =
-    let m = c.before.before.before in
-    let s = m.before.before.before.before.before in
-    let d = m.place-placed.ensures in
-    (d, else_free d s.args.free.now s.requires.2 (other_done m.place-placed.result c.in_default.keys2))
+    (c.place-placed.ensures, else_free c.place-placed.ensures c.args.free.now c.requires.2 (other_done c.place-placed.result c.in_default.in_default-own.keys2))
 
 slice_bounds-count-end : tie.Need-slice_bounds-count-end
-slice_bounds-count-end c = let s = c.before.before.before.before.before.before.before.before in sym (length-take-le s.args.length_ s.args.store.now s.requires.0)
+slice_bounds-count-end c = sym (length-take-le c.args.length_ c.args.store.now c.requires.0)
 
 count-requires : tie.Need-count-requires
 count-requires c κs =
-    let e = c.before in
-    let m = e.before.before.before.before in
-    let s = m.before.before.before.before in
-    let d = m.place.ensures in
-    placed_room s.requires.1 d (ap reply_of e.enum_told.given.1) s.args.free.now s.requires.2
+    placed_room c.requires.1 c.place-placed.ensures (ap reply_of c.in-Done.is) c.args.free.now c.requires.2
 
 shape_of-rows : tie.Need-shape_of-rows
 shape_of-rows c = search rules
 
 returns : tie.Need-returns
 returns c =
-    let e = c.before.before in
-    let m = e.before.before.before.before in
-    let s = m.before.before.before.before in
-    let d = m.place.ensures in
-    (d, placed_free s.requires.1 d (ap reply_of e.enum_told.given.1) s.args.free.now s.requires.2 _ c.count.ensures)
+    (c.place-placed.ensures, placed_free c.requires.1 c.place-placed.ensures (ap reply_of c.in-Done.is) c.args.free.now c.requires.2 _ c.count.ensures)
 
 pub place_spec : {M : Type 1} → statement M
 place_spec = tie.close (tie.spec place-placed-requires enum_told-1 shape_of-rows-in_default returns-in_default slice_bounds-count-end count-requires shape_of-rows returns)
