@@ -21,8 +21,7 @@ loop-ii-init c = (omega arith, untouched _ _)
 
 attempt_all-requires : tie.Need-attempt_all-requires invariant-loop-ii decreases-loop-ii
 attempt_all-requires c κs =
-    let a = c.before.before.before in
-    ready_at a.loop-ii.ii a.requires a.loop-ii.invariant.0 (omega (arith, a.last_of-last.ensures)) a.loop-ii.invariant.1
+    ready_at c.loop-ii.ii c.requires c.loop-ii.invariant.0 (omega (arith, c.last_of-last.ensures)) c.loop-ii.invariant.1
 
 -- after the attempts at an interval
 left_by : (c : tie.After-attempt_all invariant-loop-ii decreases-loop-ii) → let s = c.args in
@@ -34,15 +33,13 @@ shape_of-rows-then-attempt_all c = (left_by c.before.before.before).rows_length
 
 returns-then-attempt_all : tie.Need-returns-then-attempt_all invariant-loop-ii decreases-loop-ii
 returns-then-attempt_all c =
-    let w = c.before.before.before in
-    let a = w.before.before.before.before in
     record {
-      found = λ d. record { low = omega (arith, a.loop-ii.invariant.0); high = omega (arith, a.last_of-last.ensures, w.loop-ii-test.true); schedule = w.attempt_all.ensures.found c.if-attempt_all.true };
-      untouched = left_by w;
+      found = λ d. record { low = omega (arith, c.loop-ii.invariant.0); high = omega (arith, c.last_of-last.ensures, c.loop-ii-test.true); schedule = c.attempt_all.ensures.found c.if-attempt_all.true };
+      untouched = left_by c.before.before.before;
     }
 
 overflow_add-ii : tie.Need-overflow_add-ii invariant-loop-ii decreases-loop-ii
-overflow_add-ii c = let a = c.before.before.before.before.before.before.before in omega (arith, a.last_of-last.ensures, a.requires.capped)
+overflow_add-ii c = omega (arith, c.last_of-last.ensures, c.requires.capped)
 
 loop-ii-smaller : tie.Need-loop-ii-smaller invariant-loop-ii decreases-loop-ii
 loop-ii-smaller c = omega arith

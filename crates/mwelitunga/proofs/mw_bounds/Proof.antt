@@ -21,10 +21,10 @@ write_answer-requires-in-Refused : tie.Need-write_answer-requires-in-Refused
 write_answer-requires-in-Refused c κs = omega arith
 
 returns-in-Found : tie.Need-returns-in-Found
-returns-in-Found c = let m = c.before.before in bounds_told m.bounds-lower.ensures m.in-Found-2.is refl c.write_answer.ensures
+returns-in-Found c = bounds_told c.bounds-lower.ensures c.in-Found.is refl c.write_answer.ensures
 
 returns-in-Refused : tie.Need-returns-in-Refused
-returns-in-Refused c = let m = c.before.before in bounds_told m.bounds-lower.ensures m.in-Refused-2.is refl c.write_answer-in-Refused.ensures
+returns-in-Refused c = bounds_told c.bounds-lower.ensures c.in-Refused.is refl c.write_answer-in-Refused.ensures
 
 pub mw_bounds_spec : {M : Type 1} → statement M
 mw_bounds_spec = tie.close (tie.spec bounds-lower-requires enum_known-lower write_answer-requires enum_known-lower-in-Refused-1 write_answer-requires-in-Refused returns-in-Found returns-in-Refused)

@@ -41,8 +41,7 @@ call c = c.before.before.before.before
 
 returns-in-Found : tie.Need-returns-in-Found
 returns-in-Found c =
-    let m = c.before.before.before in
-    plan_told (call m.before).plan-planned.ensures m.in-Found-2.is refl (rw c.as_number.ensures at c.write_answer.ensures)
+    plan_told (call c.before.before.before.before).plan-planned.ensures c.in-Found.is refl (rw c.as_number.ensures at c.write_answer.ensures)
 
 shape_of-starts-in-Ended : tie.Need-shape_of-starts-in-Ended
 shape_of-starts-in-Ended c = omega arith
@@ -51,7 +50,7 @@ shape_of-rows-in-Ended : tie.Need-shape_of-rows-in-Ended
 shape_of-rows-in-Ended c = omega arith
 
 returns-in-Ended : tie.Need-returns-in-Ended
-returns-in-Ended c = let m = c.before.before in plan_told (call m.before).plan-planned.ensures m.in-Ended-2.is refl c.write_answer-in-Ended.ensures
+returns-in-Ended c = plan_told (call c.before.before.before).plan-planned.ensures c.in-Ended.is refl c.write_answer-in-Ended.ensures
 
 shape_of-starts-in-Refused : tie.Need-shape_of-starts-in-Refused
 shape_of-starts-in-Refused c = omega arith
@@ -60,7 +59,7 @@ shape_of-rows-in-Refused : tie.Need-shape_of-rows-in-Refused
 shape_of-rows-in-Refused c = omega arith
 
 returns-in-Refused : tie.Need-returns-in-Refused
-returns-in-Refused c = let m = c.before.before in plan_told (call m.before).plan-planned.ensures m.in-Refused-2.is refl c.write_answer-in-Refused.ensures
+returns-in-Refused c = plan_told (call c.before.before.before).plan-planned.ensures c.in-Refused.is refl c.write_answer-in-Refused.ensures
 
 pub mw_plan_spec : {M : Type 1} → statement M
 mw_plan_spec =

@@ -22,10 +22,10 @@ write_answer-requires-in-Refused : tie.Need-write_answer-requires-in-Refused
 write_answer-requires-in-Refused c κs = omega arith
 
 returns-in-Accepted : tie.Need-returns-in-Accepted
-returns-in-Accepted c = let m = c.before.before in told reading_of m.read-reading.ensures m.in-Accepted-2.is refl c.write_answer.ensures
+returns-in-Accepted c = told reading_of c.read-reading.ensures c.in-Accepted.is refl c.write_answer.ensures
 
 returns-in-Refused : tie.Need-returns-in-Refused
-returns-in-Refused c = let m = c.before.before in told reading_of m.read-reading.ensures m.in-Refused-2.is refl c.write_answer-in-Refused.ensures
+returns-in-Refused c = told reading_of c.read-reading.ensures c.in-Refused.is refl c.write_answer-in-Refused.ensures
 
 pub mw_read_spec : {M : Type 1} → statement M
 mw_read_spec = tie.close (tie.spec read-reading-requires enum_known-reading write_answer-requires enum_known-reading-in-Refused-1 write_answer-requires-in-Refused returns-in-Accepted returns-in-Refused)

@@ -37,7 +37,7 @@ abbrev call : tie.After-slice_known-4-1 → tie.After-search-searched
 call c = c.before.before.before.before
 
 returns-in-Found : tie.Need-returns-in-Found
-returns-in-Found c = let m = c.before.before in search_told (call m.before).search-searched.ensures m.in-Found-2.is refl c.write_answer.ensures
+returns-in-Found c = search_told (call c.before.before.before).search-searched.ensures c.in-Found.is refl c.write_answer.ensures
 
 shape_of-starts-in-Ended : tie.Need-shape_of-starts-in-Ended
 shape_of-starts-in-Ended c = omega arith
@@ -46,7 +46,7 @@ shape_of-rows-in-Ended : tie.Need-shape_of-rows-in-Ended
 shape_of-rows-in-Ended c = omega arith
 
 returns-in-Ended : tie.Need-returns-in-Ended
-returns-in-Ended c = let m = c.before.before in search_told (call m.before).search-searched.ensures m.in-Ended-2.is refl c.write_answer-in-Ended.ensures
+returns-in-Ended c = search_told (call c.before.before.before).search-searched.ensures c.in-Ended.is refl c.write_answer-in-Ended.ensures
 
 shape_of-starts-in-Refused : tie.Need-shape_of-starts-in-Refused
 shape_of-starts-in-Refused c = omega arith
@@ -55,7 +55,7 @@ shape_of-rows-in-Refused : tie.Need-shape_of-rows-in-Refused
 shape_of-rows-in-Refused c = omega arith
 
 returns-in-Refused : tie.Need-returns-in-Refused
-returns-in-Refused c = let m = c.before.before in search_told (call m.before).search-searched.ensures m.in-Refused-2.is refl c.write_answer-in-Refused.ensures
+returns-in-Refused c = search_told (call c.before.before.before).search-searched.ensures c.in-Refused.is refl c.write_answer-in-Refused.ensures
 
 pub mw_search_spec : {M : Type 1} → statement M
 mw_search_spec =

@@ -38,14 +38,12 @@ start c = c.before.before.before.before.before
 
 returns-in_default : tie.Need-returns-in_default
 returns-in_default c =
-    let t = c.before.before in
-    let u = t.before in
-    let a = (start u).args in
-    let e = t.in_default.is in
+    let a = (start c.before.before.before).args in
+    let e = c.in_default.is in
     let g = c.write_refusal.ensures in
     rw (g.number ∙ ap check_number e)
     (calls_refused a.file.now a.interval a.horizon a.calls.now a.rows.now a.replies.now a.starts.now a.free.now a.answer.now _ _ _
-    (sym u.unfit-checked.ensures ∙ ap refusal_of e) (g.words ∙ ap (detail_words a.answer.now) e))
+    (sym c.unfit-checked.ensures ∙ ap refusal_of e) (g.words ∙ ap (detail_words a.answer.now) e))
 
 open-opening-requires : tie.Need-open-opening-requires
 open-opening-requires c κs = omega arith
@@ -68,23 +66,17 @@ shape_of-rows-in_default-opened c = omega arith
 
 returns-in_default-opened : tie.Need-returns-in_default-opened
 returns-in_default-opened c =
-    let t = c.before.before in
-    let o = t.before.before.before in
-    let e = o.before.before in
-    let a = (start e.before).args in
-    let q = t.in_default-opened.is in
+    let a = (start c.before.before.before.before.before.before.before.before).args in
+    let q = c.in_default-opened.is in
     let g = c.write_refusal-in_default-opened.ensures in
     rw (g.number ∙ ap check_number q)
-    (opening_refused a.file.now a.interval a.horizon a.calls.now a.rows.now a.replies.now a.starts.now a.free.now a.answer.now _ (fine e)
-    (opened_is o.«open».ensures q) (g.words ∙ ap (detail_words a.answer.now) q))
+    (opening_refused a.file.now a.interval a.horizon a.calls.now a.rows.now a.replies.now a.starts.now a.free.now a.answer.now _ (fine c.before.before.before.before.before.before.before)
+    (opened_is c.«open».ensures q) (g.words ∙ ap (detail_words a.answer.now) q))
 
 run-marks-requires : tie.Need-run-marks-requires
 run-marks-requires c κs =
-    let t = c.before.before.before.before.before in
-    let o = t.before.before.before in
-    let e = o.before.before in
-    let a = (start e.before).args in
-    ((from_open (opened_is o.«open».ensures t.in-Fine-opened.is)).valid, omega arith, fit_room a.calls.now (length a.replies.now) (fine e))
+    let a = (start c.before.before.before.before.before.before.before.before.before.before.before).args in
+    ((from_open (opened_is c.«open».ensures c.in-Fine-opened.is)).valid, omega arith, fit_room a.calls.now (length a.replies.now) (fine c.before.before.before.before.before.before.before.before.before.before))
 
 write_answer-requires : tie.Need-write_answer-requires
 write_answer-requires c κs = omega arith
@@ -97,13 +89,9 @@ shape_of-replies c = omega arith
 
 returns : tie.Need-returns
 returns c =
-    let r = c.before.before.before.before.before.before in
-    let t = r.before.before.before.before.before.before in
-    let o = t.before.before.before in
-    let e = o.before.before in
-    let a = (start e.before).args in
-    all_made a.file.now a.interval a.horizon a.calls.now a.rows.now a.replies.now a.starts.now a.free.now a.answer.now _ (fine e)
-    (opened_is o.«open».ensures t.in-Fine-opened.is) r.run-marks.ensures c.write_answer.ensures
+    let a = (start c.before.before.before.before.before.before.before.before.before.before.before.before.before.before.before.before.before.before).args in
+    all_made a.file.now a.interval a.horizon a.calls.now a.rows.now a.replies.now a.starts.now a.free.now a.answer.now _ (fine c.before.before.before.before.before.before.before.before.before.before.before.before.before.before.before.before.before)
+    (opened_is c.«open».ensures c.in-Fine-opened.is) c.run-marks.ensures c.write_answer.ensures
 
 pub mw_session_spec : {M : Type 1} → statement M
 mw_session_spec =

@@ -34,16 +34,16 @@ write_answer-requires-in-Refused : tie.Need-write_answer-requires-in-Refused
 write_answer-requires-in-Refused c κs = omega arith
 
 returns-in-Legal : tie.Need-returns-in-Legal
-returns-in-Legal c = let m = c.before.before in told verdict_of m.verify-verdict.ensures m.in-Legal.is refl c.write_answer.ensures
+returns-in-Legal c = told verdict_of c.verify-verdict.ensures c.in-Legal.is refl c.write_answer.ensures
 
 returns-in-Broken : tie.Need-returns-in-Broken
-returns-in-Broken c = let m = c.before.before in told verdict_of m.verify-verdict.ensures m.in-Broken-2.is refl c.write_answer-in-Broken.ensures
+returns-in-Broken c = told verdict_of c.verify-verdict.ensures c.in-Broken.is refl c.write_answer-in-Broken.ensures
 
 returns-in-Conflict : tie.Need-returns-in-Conflict
-returns-in-Conflict c = let m = c.before.before in told verdict_of m.verify-verdict.ensures m.in-Conflict-2.is refl c.write_answer-in-Conflict.ensures
+returns-in-Conflict c = told verdict_of c.verify-verdict.ensures c.in-Conflict.is refl c.write_answer-in-Conflict.ensures
 
 returns-in-Refused : tie.Need-returns-in-Refused
-returns-in-Refused c = let m = c.before.before in told verdict_of m.verify-verdict.ensures m.in-Refused-2.is refl c.write_answer-in-Refused.ensures
+returns-in-Refused c = told verdict_of c.verify-verdict.ensures c.in-Refused.is refl c.write_answer-in-Refused.ensures
 
 pub mw_verify_spec : {M : Type 1} → statement M
 mw_verify_spec =

@@ -26,18 +26,16 @@ shape_of-buffer-in-Bytes c = omega arith
 
 returns-in-Bytes : tie.Need-returns-in-Bytes
 returns-in-Bytes c =
-    let m = c.before.before in
-    let w = m.write-written.ensures in
-    record { gives = told written_of w.says m.in-Bytes-2.is refl c.write_answer.ensures; buffer_is = w.leaves }
+    let w = c.write-written.ensures in
+    record { gives = told written_of w.says c.in-Bytes.is refl c.write_answer.ensures; buffer_is = w.leaves }
 
 shape_of-buffer-in-Refused : tie.Need-shape_of-buffer-in-Refused
 shape_of-buffer-in-Refused c = omega arith
 
 returns-in-Refused : tie.Need-returns-in-Refused
 returns-in-Refused c =
-    let m = c.before.before in
-    let w = m.write-written.ensures in
-    record { gives = told written_of w.says m.in-Refused-2.is refl c.write_answer-in-Refused.ensures; buffer_is = w.leaves }
+    let w = c.write-written.ensures in
+    record { gives = told written_of w.says c.in-Refused.is refl c.write_answer-in-Refused.ensures; buffer_is = w.leaves }
 
 pub mw_write_spec : {M : Type 1} → statement M
 mw_write_spec =

@@ -22,13 +22,11 @@ shape_of-list c = omega arith
 
 returns : tie.Need-returns
 returns c =
-    let w = c.before.before.before.before in
-    let s = w.before.before.before.before.before in
-    let a = s.args in
+    let a = c.args in
     record {
       says = ap (λ (k : ℕ). planned.Found (record { interval = a.interval; resource = a.resource; recurrence = a.recurrence; stages = k; smallest = a.smallest }))
-          (c.stage_count.ensures ∙ sym (stages_take (loop_of a.file.now) a.interval a.n a.starts.now s.requires.is_size));
-      list_is = w.write_list.ensures;
+          (c.stage_count.ensures ∙ sym (stages_take (loop_of a.file.now) a.interval a.n a.starts.now c.requires.is_size));
+      list_is = c.write_list.ensures;
     }
 
 pub keep_spec : {M : Type 1} → statement M

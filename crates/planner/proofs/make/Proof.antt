@@ -12,9 +12,7 @@ larger-least-requires c κs = omega arith
 
 place_all-quick-requires : tie.Need-place_all-quick-requires
 place_all-quick-requires c κs =
-    let g = c.before.before in
-    let s = g.before.before.before.before in
-    asks s.requires _ _ g.larger-least.ensures refl
+    asks c.requires _ _ c.larger-least.ensures refl
 
 -- the entry
 abbrev start : tie.After-place_all-quick → tie.Start
@@ -22,9 +20,8 @@ start c = c.before.before.before.before.before.before.before
 
 clear_rows-requires : tie.Need-clear_rows-requires
 clear_rows-requires c κs =
-    let t = c.before.before.before.before in
-    let s = start t in
-    omega (arith, s.requires.long, t.place_all-quick.ensures.untouched.rows_length)
+    let s = start c.before.before.before.before in
+    omega (arith, s.requires.long, c.place_all-quick.ensures.untouched.rows_length)
 
 -- a quick list at the larger bound is there
 bound_there : (c : tie.Then-quick-least) → c.place_all-quick.result ≡ 0 → ⊥
@@ -36,8 +33,7 @@ bounding c = c.before.before.before
 
 keep-requires : tie.Need-keep-requires
 keep-requires c κs =
-    let t = c.before.before.before.before.before.before.before.before.before in
-    keepable (start t).requires (bounding t).larger-least.ensures refl t.place_all-quick.ensures refl
+    keepable (start c.before.before.before.before.before.before.before.before.before).requires (bounding c.before.before.before.before.before.before.before.before.before).larger-least.ensures refl c.place_all-quick.ensures refl
 
 shape_of-list-then-quick-least : tie.Need-shape_of-list-then-quick-least
 shape_of-list-then-quick-least c = omega arith
@@ -47,12 +43,7 @@ shape_of-rows-then-quick-least c = omega arith
 
 returns-then-quick-least : tie.Need-returns-then-quick-least
 returns-then-quick-least c =
-    let k = c.before.before in
-    let r = k.before.before.before.before in
-    let w = r.before in
-    let h = w.before.before in
-    let t = h.before.before.before in
-    keeps_bound (start t).requires (bounding t).larger-least.ensures refl t.place_all-quick.ensures (bound_there h) h.if-quick-least.true w.clear_rows.ensures k.keep.ensures
+    keeps_bound (start c.before.before.before.before.before.before.before.before.before.before.before.before).requires (bounding c.before.before.before.before.before.before.before.before.before.before.before.before).larger-least.ensures refl c.place_all-quick.ensures (bound_there c.before.before.before.before.before.before.before.before.before) c.if-quick-least.true c.clear_rows.ensures c.keep.ensures
 
 below-requires : tie.Need-below-requires
 below-requires c κs = omega arith
@@ -100,17 +91,15 @@ refused-from c = c.before.before.before.before.before
 
 returns-then-quick-eq0 : tie.Need-returns-then-quick-eq0
 returns-then-quick-eq0 c =
-    let m = c.before in
-    let s = ended-from m in
+    let s = ended-from c.before in
     let t = tried s in
-    search_ended (start t).requires (bounding t).larger-least.ensures refl t.place_all-quick.ensures (not_least s) (searched_is s) m.in-Ended.is c.if-quick-eq0.true
+    search_ended (start t).requires (bounding t).larger-least.ensures refl t.place_all-quick.ensures (not_least s) (searched_is s) c.in-Ended.is c.if-quick-eq0.true
 
 keep-requires-in-Ended : tie.Need-keep-requires-in-Ended
 keep-requires-in-Ended c κs =
-    let m = c.before.before.before in
-    let s = ended-from m in
+    let s = ended-from c.before.before.before in
     let t = tried s in
-    room_left (start t).requires (bounding t).larger-least.ensures refl t.place_all-quick.ensures (not_least s) (searched_is s) m.in-Ended.is
+    room_left (start t).requires (bounding t).larger-least.ensures refl t.place_all-quick.ensures (not_least s) (searched_is s) c.in-Ended.is
 
 enum_known-searched-in-Refused-1 : tie.Need-enum_known-searched-in-Refused-1
 enum_known-searched-in-Refused-1 c = omega arith
@@ -135,12 +124,9 @@ shape_of-rows-else-quick-eq0 c = omega arith
 
 returns-else-quick-eq0 : tie.Need-returns-else-quick-eq0
 returns-else-quick-eq0 c =
-    let k = c.before.before in
-    let e = k.before.before.before in
-    let m = e.before in
-    let s = ended-from m in
+    let s = ended-from c.before.before.before.before.before.before in
     let t = tried s in
-    keeps_quick (start t).requires (bounding t).larger-least.ensures refl t.place_all-quick.ensures (not_least s) (searched_is s) m.in-Ended.is e.if-quick-eq0.false k.keep-in-Ended.ensures
+    keeps_quick (start t).requires (bounding t).larger-least.ensures refl t.place_all-quick.ensures (not_least s) (searched_is s) c.in-Ended.is c.if-quick-eq0.false c.keep-in-Ended.ensures
 
 shape_of-list-in-Refused : tie.Need-shape_of-list-in-Refused
 shape_of-list-in-Refused c = omega arith

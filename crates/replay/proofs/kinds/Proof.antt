@@ -33,16 +33,13 @@ bounds-calls-i c = search rules
 
 returns-then-kind-lt1 : tie.Need-returns-then-kind-lt1 invariant-loop-i decreases-loop-i
 returns-then-kind-lt1 c =
-    let l = c.before.before.before in
-    let a = l.args in
-    sym (row_refused (kind_check a.calls.now) l.loop-i.i a.n _ (omega arith) l.loop-i.invariant.1 (kind_fails a.calls.now l.loop-i.i (too_small 6 _ c.if-kind-lt1.true)))
+    let a = c.args in
+    sym (row_refused (kind_check a.calls.now) c.loop-i.i a.n _ (omega arith) c.loop-i.invariant.1 (kind_fails a.calls.now c.loop-i.i (too_small 6 _ c.if-kind-lt1.true)))
 
 returns-then-kind-gt6 : tie.Need-returns-then-kind-gt6 invariant-loop-i decreases-loop-i
 returns-then-kind-gt6 c =
-    let e = c.before in
-    let l = e.before.before.before in
-    let a = l.args in
-    sym (row_refused (kind_check a.calls.now) l.loop-i.i a.n _ (omega arith) l.loop-i.invariant.1 (kind_fails a.calls.now l.loop-i.i (too_large 6 _ e.if-kind-lt1.false (omega (arith, c.if-kind-gt6.true)))))
+    let a = c.args in
+    sym (row_refused (kind_check a.calls.now) c.loop-i.i a.n _ (omega arith) c.loop-i.invariant.1 (kind_fails a.calls.now c.loop-i.i (too_large 6 _ c.if-kind-lt1.false (omega (arith, c.if-kind-gt6.true)))))
 
 overflow_add-i : tie.Need-overflow_add-i invariant-loop-i decreases-loop-i
 overflow_add-i c = search rules
@@ -52,16 +49,13 @@ loop-i-smaller c = omega arith
 
 loop-i-preserved : tie.Need-loop-i-preserved invariant-loop-i decreases-loop-i
 loop-i-preserved c =
-    let e = c.before in
-    let l = e.before.before.before in
-    let xs = l.args.calls.now in
-    (omega arith, row_next (kind_check xs) l.loop-i.i l.loop-i.invariant.1 (kind_passes xs l.loop-i.i (in_range 6 _ e.if-kind-lt1.false (omega (arith, c.if-kind-gt6.false)))))
+    let xs = c.args.calls.now in
+    (omega arith, row_next (kind_check xs) c.loop-i.i c.loop-i.invariant.1 (kind_passes xs c.loop-i.i (in_range 6 _ c.if-kind-lt1.false (omega (arith, c.if-kind-gt6.false)))))
 
 returns : tie.Need-returns invariant-loop-i decreases-loop-i
 returns c =
-    let l = c.before in
-    let a = l.args in
-    sym (ap (λ k. first_refusal (flat_map (kind_check a.calls.now) (up_from 0 k))) (omega arith) ∙ l.loop-i.invariant.1)
+    let a = c.args in
+    sym (ap (λ k. first_refusal (flat_map (kind_check a.calls.now) (up_from 0 k))) (omega arith) ∙ c.loop-i.invariant.1)
 
 pub kinds_spec : {M : Type 1} → statement M
 kinds_spec =

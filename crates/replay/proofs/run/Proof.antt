@@ -28,8 +28,7 @@ bounds-t-0 c = omega arith
 
 loop-i-init : tie.Need-loop-i-init invariant-loop-i decreases-loop-i
 loop-i-init c =
-    let s = c.before.before.before.before.before.before in
-    (omega arith, s.requires.0, made_none s.args.calls.now s.args.s s.args.rows.now s.args.replies.now, refl, refl)
+    (omega arith, c.requires.0, made_none c.args.calls.now c.args.s c.args.rows.now c.args.replies.now, refl, refl)
 
 overflow_mul-kind : tie.Need-overflow_mul-kind invariant-loop-i decreases-loop-i
 overflow_mul-kind c = omega arith
@@ -103,57 +102,45 @@ wanted_there c six low high =
 
 make-turn-requires : tie.Need-make-turn-requires invariant-loop-i decreases-loop-i
 make-turn-requires c κs =
-    let p = c.before.before.before.before.before.before.before.before.before in
-    let l = turn p in
-    record { saved = l.loop-i.t.saved; valid = l.loop-i.invariant.1; wanted_is = wanted_there p }
+    let l = turn c.before.before.before.before.before.before.before in
+    record { saved = l.loop-i.t.saved; valid = l.loop-i.invariant.1; wanted_is = wanted_there c.before.before.before.before.before.before.before }
 
 offset_bounds-t-marks : tie.Need-offset_bounds-t-marks invariant-loop-i decreases-loop-i
 offset_bounds-t-marks c = omega arith
 
 bounds-t-marks : tie.Need-bounds-t-marks invariant-loop-i decreases-loop-i
 bounds-t-marks c =
-    let e = c.before.before in
-    let k = e.before.before.before.before in
-    let p = k.before.before.before.before.before.before.before.before.before.before in
-    let l = turn p in
-    omega (arith, e.if-marks-turn.true, (k.make-turn.ensures.steps l.loop-i.t.saved l.loop-i.invariant.1 (wanted_there p)).valid.few)
+    let l = turn c.before.before.before.before.before.before.before.before.before.before.before.before.before.before in
+    omega (arith, c.if-marks-turn.true, (c.make-turn.ensures.steps l.loop-i.t.saved l.loop-i.invariant.1 (wanted_there c.before.before.before.before.before.before.before.before.before.before.before.before.before.before)).valid.few)
 
 overflow_mul-i : tie.Need-overflow_mul-i invariant-loop-i decreases-loop-i
 overflow_mul-i c = omega (arith, offset_bounds-calls-i c.before.before.before.before.before.before.before.before.before.before.before.before.before.before.before.before.before.before.before)
 
 write_reply-requires : tie.Need-write_reply-requires invariant-loop-i decreases-loop-i
 write_reply-requires c κs =
-    let i = c.before.before.before.before.before.before.before.before.before.before.before.before.before.before.before.before.before.before.before in
-    omega (arith, i.loop-test.true, i.loop.invariant.4, (entry i.before).requires.2)
+    omega (arith, c.loop-i-test.true, c.loop-i.invariant.4, (entry c.before.before.before.before.before.before.before.before.before.before.before.before.before.before.before.before.before.before).requires.2)
 
 overflow_add-i : tie.Need-overflow_add-i invariant-loop-i decreases-loop-i
 overflow_add-i c =
-    let i = c.before.before.before.before.before.before.before.before.before.before.before.before.before.before.before.before.before.before.before.before.before.before in
-    omega (arith, i.loop-test.true, (entry i.before).fits.n)
+    omega (arith, c.loop-i-test.true, (entry c.before.before.before.before.before.before.before.before.before.before.before.before.before.before.before.before.before.before.before.before.before).fits.n)
 
 loop-i-smaller : tie.Need-loop-i-smaller invariant-loop-i decreases-loop-i
 loop-i-smaller c = omega arith
 
 loop-i-preserved : tie.Need-loop-i-preserved invariant-loop-i decreases-loop-i
 loop-i-preserved c =
-    let w = c.before.before in
-    let j = w.before.before in
-    let k = j.before.before.before.before in
-    let p = k.before.before.before.before.before.before.before.before.before.before in
-    let t = p.before.before.before.before in
-    let l = t.before in
-    let s = entry l in
-    let m = l.loop.invariant in
-    let grown = turned_grown k.make-turn.ensures l.loop.t.saved m.1 (wanted_there p) in
-    let kept = turned_kept k.make-turn.ensures l.loop.t.saved m.1 (wanted_there p) in (
-      omega (arith, t.loop-test.true),
-      ⊎_elim (λ x. rw x.3 (grown x.0.taken).valid) (λ x. rw x.1 (kept x.0.left).valid) j.if-marks-turn.branch-raw,
+    let s = entry c.before.before.before.before.before.before.before.before.before.before.before.before.before.before.before.before.before.before.before.before.before in
+    let m = c.loop-i.invariant in
+    let grown = turned_grown c.make-turn.ensures c.loop-i.t.saved m.1 (wanted_there c.before.before.before.before.before.before.before.before.before.before.before.before.before.before.before.before) in
+    let kept = turned_kept c.make-turn.ensures c.loop-i.t.saved m.1 (wanted_there c.before.before.before.before.before.before.before.before.before.before.before.before.before.before.before.before) in (
+      omega (arith, c.loop-i-test.true),
+      ⊎_elim (λ x. rw x.3 (grown x.0.taken).valid) (λ x. rw x.1 (kept x.0.left).valid) c.if-marks-turn.branch-raw,
       ⊎_elim
-          (λ x. rw x.3 (made_next s.args.calls.now l.loop.i m.2 (grown x.0.taken) w.write_reply.ensures))
-          (λ x. rw x.1 (made_next s.args.calls.now l.loop.i m.2 (kept x.0.left) w.write_reply.ensures))
-          j.if-marks-turn.branch-raw,
-      stepped_length m.1 (k.make-turn.ensures.steps l.loop.t.saved m.1 (wanted_there p)) ∙ m.3,
-      ap length w.write_reply.ensures ∙ length_written _ _ _ ∙ m.4,
+          (λ x. rw x.3 (made_next s.args.calls.now c.loop-i.i m.2 (grown x.0.taken) c.write_reply.ensures))
+          (λ x. rw x.1 (made_next s.args.calls.now c.loop-i.i m.2 (kept x.0.left) c.write_reply.ensures))
+          c.if-marks-turn.branch-raw,
+      stepped_length m.1 (c.make-turn.ensures.steps c.loop-i.t.saved m.1 (wanted_there c.before.before.before.before.before.before.before.before.before.before.before.before.before.before.before.before)) ∙ m.3,
+      ap length c.write_reply.ensures ∙ length_written _ _ _ ∙ m.4,
     )
 
 shape_of-rows : tie.Need-shape_of-rows invariant-loop-i decreases-loop-i
@@ -164,11 +151,10 @@ shape_of-replies c = omega arith
 
 returns : tie.Need-returns invariant-loop-i decreases-loop-i
 returns c =
-    let l = c.before in
-    let e : (entry l).args.n ≡ l.loop-i.i = omega (arith, c.loop-i-test.false, l.loop-i.invariant.0) in
-    let m = l.loop-i.invariant.2 in
+    let e : (entry c.before).args.n ≡ c.loop-i.i = omega (arith, c.loop-i-test.false, c.loop-i.invariant.0) in
+    let m = c.loop-i.invariant.2 in
     record {
-      last = with_placed l.loop-i.t l.loop-i.starts l.loop-i.free;
+      last = with_placed c.loop-i.t c.loop-i.starts c.loop-i.free;
       answers = m.answers;
       run = rw e m.run;
       words = m.words;

@@ -25,10 +25,9 @@ enum_told-in_default c = search rules
 
 returns-in_default : tie.Need-returns-in_default
 returns-in_default c =
-    let k = c.before in
-    let a = k.args in
+    let a = c.args in
     let e = c.in_default.is in
-    ap refusal_of e ∙ sym (unfit_kind a.calls.now a.room (sym k.kinds-checked.ensures ∙ ap refusal_of e))
+    ap refusal_of e ∙ sym (unfit_kind a.calls.now a.room (sym c.kinds-checked.ensures ∙ ap refusal_of e))
 
 overflow_mul-n : tie.Need-overflow_mul-n
 overflow_mul-n c = omega arith
@@ -39,9 +38,8 @@ known c = sym c.kinds-checked.ensures ∙ ap refusal_of c.in-Fine.is
 
 returns-then-n-calls : tie.Need-returns-then-n-calls
 returns-then-n-calls c =
-    let k = c.before in
-    let a = k.args in
-    sym (unfit_cut a.calls.now a.room (known k) c.if-n-calls.true)
+    let a = c.args in
+    sym (unfit_cut a.calls.now a.room (known c.before) c.if-n-calls.true)
 
 overflow_mul-n-2 : tie.Need-overflow_mul-n-2
 overflow_mul-n-2 c = omega arith
@@ -52,17 +50,13 @@ whole c = omega (arith, c.if-n-calls.false)
 
 returns-then-room-n : tie.Need-returns-then-room-n
 returns-then-room-n c =
-    let e = c.before in
-    let k = e.before in
-    let a = k.args in
-    sym (unfit_room a.calls.now a.room (known k) (whole e) (omega (arith, c.if-room-n.true)))
+    let a = c.args in
+    sym (unfit_room a.calls.now a.room (known c.before.before) (whole c.before) (omega (arith, c.if-room-n.true)))
 
 returns : tie.Need-returns
 returns c =
-    let e = c.before in
-    let k = e.before in
-    let a = k.args in
-    sym (fit a.calls.now a.room (known k) (whole e) (omega (arith, c.if-room-n.false)))
+    let a = c.args in
+    sym (fit a.calls.now a.room (known c.before.before) (whole c.before) (omega (arith, c.if-room-n.false)))
 
 pub unfit_spec : {M : Type 1} → statement M
 unfit_spec =

@@ -42,25 +42,25 @@ shape_of-replies-in-Done : tie.Need-shape_of-replies-in-Done
 shape_of-replies-in-Done c = omega arith
 
 returns-in-Done : tie.Need-returns-in-Done
-returns-in-Done c = let w = c.before.before in told _ _ w.in-Done.is w.write_two.ensures
+returns-in-Done c = told _ _ c.in-Done.is c.write_two.ensures
 
 shape_of-replies-in-Displaced : tie.Need-shape_of-replies-in-Displaced
 shape_of-replies-in-Displaced c = omega arith
 
 returns-in-Displaced : tie.Need-returns-in-Displaced
-returns-in-Displaced c = let w = c.before.before in told _ _ w.in-Displaced.is w.write_two-in-Displaced.ensures
+returns-in-Displaced c = told _ _ c.in-Displaced.is c.write_two-in-Displaced.ensures
 
 shape_of-replies-in-Numbered : tie.Need-shape_of-replies-in-Numbered
 shape_of-replies-in-Numbered c = omega arith
 
 returns-in-Numbered : tie.Need-returns-in-Numbered
-returns-in-Numbered c = let w = c.before.before in told _ _ w.in-Numbered.is w.write_two-in-Numbered.ensures
+returns-in-Numbered c = told _ _ c.in-Numbered.is c.write_two-in-Numbered.ensures
 
 shape_of-replies-in-Refused : tie.Need-shape_of-replies-in-Refused
 shape_of-replies-in-Refused c = omega arith
 
 returns-in-Refused : tie.Need-returns-in-Refused
-returns-in-Refused c = let w = c.before.before in told _ _ w.in-Refused.is w.write_two-in-Refused.ensures
+returns-in-Refused c = told _ _ c.in-Refused.is c.write_two-in-Refused.ensures
 
 pub write_reply_spec : {M : Type 1} → statement M
 write_reply_spec =

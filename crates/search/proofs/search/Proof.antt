@@ -25,8 +25,7 @@ refused-requires c κs = omega arith
 
 returns-in_default : tie.Need-returns-in_default
 returns-in_default c =
-    let u = c.before.before in
-    by_file u.read-reading.ensures u.in_default.is (c.refused.ensures ∙ ap as_refused c.unread.ensures)
+    by_file c.read-reading.ensures c.in_default.is (c.refused.ensures ∙ ap as_refused c.unread.ensures)
 
 -- ---- once the file is accepted
 
@@ -51,15 +50,14 @@ refused-requires-in_default-asked : tie.Need-refused-requires-in_default-asked
 refused-requires-in_default-asked c κs = omega arith
 
 returns-in_default-asked : tie.Need-returns-in_default-asked
-returns-in_default-asked c = let a = c.before.before in by_request (known a.before) a.request-asked.ensures c.in_default-asked.is c.refused-in_default-asked.ensures
+returns-in_default-asked c = by_request (known c.before.before.before) c.request-asked.ensures c.in_default-asked.is c.refused-in_default-asked.ensures
 
 -- ---- once the request passes
 
 -- no check fails
-fine : (c : tie.In-Fine) → let k = c.before.before in
-    let g = (start k).args in
-    Passes g.file.now k.in-Accepted.n g.cap g.horizon g.budget g.list.now g.rows.now
-fine c = let a = c.before in all_pass (known a.before) a.request-asked.ensures c.in-Fine.is
+fine : (c : tie.In-Fine) → let g = (start c.before.before).args in
+    Passes g.file.now c.in-Accepted.n g.cap g.horizon g.budget g.list.now g.rows.now
+fine c = all_pass (known c.before.before) c.request-asked.ensures c.in-Fine.is
 
 lower-lower-requires : tie.Need-lower-lower-requires
 lower-lower-requires c κs = (known c.before.before).file
@@ -74,15 +72,13 @@ unbounded-requires : tie.Need-unbounded-requires
 unbounded-requires c κs = omega arith
 
 returns-in_default-lower : tie.Need-returns-in_default-lower
-returns-in_default-lower c = let b = c.before.before in by_lower (fine b.before) b.lower-lower.ensures c.in_default-lower.is c.unbounded.ensures
+returns-in_default-lower c = by_lower (fine c.before.before.before) c.lower-lower.ensures c.in_default-lower.is c.unbounded.ensures
 
 -- ---- once there are bounds
 
 attempt-requires : tie.Need-attempt-requires
 attempt-requires c κs =
-    let k = c.before.before in
-    let b = k.before in
-    passed (fine b.before) b.lower-lower.ensures k.in-Found-2.is
+    passed (fine c.before.before.before.before) c.lower-lower.ensures c.in-Found.is
 
 shape_of-list : tie.Need-shape_of-list
 shape_of-list c = omega arith
@@ -92,10 +88,7 @@ shape_of-rows c = omega arith
 
 returns : tie.Need-returns
 returns c =
-    let t = c.before.before.before.before in
-    let k = t.before.before.before in
-    let b = k.before in
-    by_attempt (fine b.before) b.lower-lower.ensures k.in-Found-2.is t.attempt.ensures
+    by_attempt (fine c.before.before.before.before.before.before.before.before.before) c.lower-lower.ensures c.in-Found.is c.attempt.ensures
 
 pub search_spec : {M : Type 1} → statement M
 search_spec =

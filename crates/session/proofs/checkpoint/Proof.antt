@@ -5,7 +5,7 @@ use Rattle.session.proofs.checkpoint.Statement.{statement}
 use Rattle.session.proofs.checkpoint.Tie as tie
 
 returns-then-n-ge16 : tie.Need-returns-then-n-ge16
-returns-then-n-ge16 c = let s = c.before in full s.args.s s.args.rows.now s.requires c.if-n-ge16.true
+returns-then-n-ge16 c = full c.args.s c.args.rows.now c.requires c.if-n-ge16.true
 
 offset_bounds-t-n : tie.Need-offset_bounds-t-n
 offset_bounds-t-n c = omega arith
@@ -20,7 +20,7 @@ overflow_add-result : tie.Need-overflow_add-result
 overflow_add-result c = omega arith
 
 returns : tie.Need-returns
-returns c = let e = c.before.before in let s = e.before in stepped_checkpoint s.args.s s.args.rows.now s.requires e.if-n-ge16.false
+returns c = stepped_checkpoint c.args.s c.args.rows.now c.requires c.if-n-ge16.false
 
 pub checkpoint_spec : {M : Type 1} → statement M
 checkpoint_spec = tie.close (tie.spec returns-then-n-ge16 offset_bounds-t-n bounds-t-n overflow_add-t overflow_add-result returns)

@@ -29,11 +29,9 @@ start c = c.before.before.before
 
 returns-in_default : tie.Need-returns-in_default
 returns-in_default c =
-    let t = c.before in
-    let k = t.before in
-    let a = (start k).args in
-    let e = t.in_default.is in
-    rw (c.closed-nothing.ensures, e) (open_refused a.file.now a.interval a.horizon a.rows.now _ _ (sym k.openable-answer.ensures ∙ ap refusal_of e))
+    let a = (start c.before.before).args in
+    let e = c.in_default.is in
+    rw (c.closed-nothing.ensures, e) (open_refused a.file.now a.interval a.horizon a.rows.now _ _ (sym c.openable-answer.ensures ∙ ap refusal_of e))
 
 -- nothing is against it
 fine : (c : tie.In-Fine) → let a = (start c.before).args in first_refusal (open_checks a.file.now a.interval a.horizon (length a.rows.now)) ≡ none
@@ -41,32 +39,26 @@ fine c = sym c.openable-answer.ensures ∙ ap refusal_of c.in-Fine.is
 
 copy_file-requires : tie.Need-copy_file-requires
 copy_file-requires c κs =
-    let e = c.before in
-    let a = (start e.before).args in
-    (open_short a.file.now a.interval a.horizon a.rows.now (fine e), refl)
+    let a = (start c.before.before).args in
+    (open_short a.file.now a.interval a.horizon a.rows.now (fine c.before), refl)
 
 clear_rows-requires : tie.Need-clear_rows-requires
 clear_rows-requires c κs =
-    let e = c.before.before.before in
-    let a = (start e.before).args in
-    omega (arith, open_room a.file.now a.interval a.horizon a.rows.now (fine e), open_some a.file.now a.interval a.horizon a.rows.now (fine e))
+    let a = (start c.before.before.before.before).args in
+    omega (arith, open_room a.file.now a.interval a.horizon a.rows.now (fine c.before.before.before), open_some a.file.now a.interval a.horizon a.rows.now (fine c.before.before.before))
 
 overflow_cast-each : tie.Need-overflow_cast-each
 overflow_cast-each c =
-    let e = c.before.before.before.before.before.before in
-    let a = (start e.before).args in
-    omega (arith, open_long a.file.now a.interval a.horizon a.rows.now (fine e))
+    let a = (start c.before.before.before.before.before.before.before).args in
+    omega (arith, open_long a.file.now a.interval a.horizon a.rows.now (fine c.before.before.before.before.before.before))
 
 shape_of-rows : tie.Need-shape_of-rows
 shape_of-rows c = omega arith
 
 returns : tie.Need-returns
 returns c =
-    let w = c.before.before in
-    let y = w.before.before in
-    let e = y.before.before in
-    let a = (start e.before).args in
-    open_done a.file.now a.interval a.horizon a.rows.now (fine e) (replicate longest 0) _ _ (length-replicate {A = ℕ} longest 0) y.copy_file.ensures w.clear_rows.ensures
+    let a = (start c.before.before.before.before.before.before.before).args in
+    open_done a.file.now a.interval a.horizon a.rows.now (fine c.before.before.before.before.before.before) (replicate longest 0) _ _ (length-replicate {A = ℕ} longest 0) c.copy_file.ensures c.clear_rows.ensures
 
 pub open_spec : {M : Type 1} → statement M
 open_spec =

@@ -15,9 +15,7 @@ shape_of-rows c = search rules
 
 returns : tie.Need-returns
 returns c =
-    let m = c.before.before in
-    let s = m.before.before.before.before.before.before.before.before.before in
-    stepped_plain s.args.s s.args.rows.now s.requires (model.place s.args.op s.args.start) (λ a cs. refl) (λ a cs. refl) m.place-reply.ensures
+    stepped_plain c.args.s c.args.rows.now c.requires (model.place c.args.op c.args.start) (λ a cs. refl) (λ a cs. refl) c.place-reply.ensures
 
 pub place_spec : {M : Type 1} → statement M
 place_spec = tie.close (tie.spec place-reply-requires shape_of-rows returns)

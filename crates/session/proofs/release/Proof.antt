@@ -5,13 +5,13 @@ use Rattle.session.proofs.release.Statement.{statement}
 use Rattle.session.proofs.release.Tie as tie
 
 returns-then-n-eq0 : tie.Need-returns-then-n-eq0
-returns-then-n-eq0 c = let s = c.before in none_open s.args.s s.args.rows.now s.requires c.if-n-eq0.true
+returns-then-n-eq0 c = none_open c.args.s c.args.rows.now c.requires c.if-n-eq0.true
 
 overflow_sub-t : tie.Need-overflow_sub-t
 overflow_sub-t c = search rules
 
 returns : tie.Need-returns
-returns c = let s = c.before in stepped_release s.args.s s.args.rows.now s.requires c.if-n-eq0.false
+returns c = stepped_release c.args.s c.args.rows.now c.requires c.if-n-eq0.false
 
 pub release_spec : {M : Type 1} → statement M
 release_spec = tie.close (tie.spec returns-then-n-eq0 overflow_sub-t returns)

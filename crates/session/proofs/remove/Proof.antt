@@ -16,9 +16,7 @@ shape_of-rows c = search rules
 
 returns : tie.Need-returns
 returns c =
-    let m = c.before.before in
-    let s = m.before.before.before.before.before.before.before.before.before in
-    stepped_plain s.args.s s.args.rows.now s.requires (model.remove s.args.op) (λ a cs. refl) (λ a cs. refl) (m.remove-reply.ensures.0 s.args.s.horizon s.requires.board, m.remove-reply.ensures.1)
+    stepped_plain c.args.s c.args.rows.now c.requires (model.remove c.args.op) (λ a cs. refl) (λ a cs. refl) (c.remove-reply.ensures.0 c.args.s.horizon c.requires.board, c.remove-reply.ensures.1)
 
 pub remove_spec : {M : Type 1} → statement M
 remove_spec = tie.close (tie.spec remove-reply-requires shape_of-rows returns)

@@ -13,9 +13,8 @@ enum_told-1 c = omega arith
 
 begun-requires : tie.Need-begun-requires
 begun-requires c κs =
-    let d = c.before in
-    let o = d.«open» in
-    o.ensures.valid (setup_of o.result.session) (sym o.ensures.says ∙ ap (opening_of o.result.session) d.in-Fine.is)
+    let o = c.«open» in
+    o.ensures.valid (setup_of o.result.session) (sym o.ensures.says ∙ ap (opening_of o.result.session) c.in-Fine.is)
 
 enum_known-answer : tie.Need-enum_known-answer
 enum_known-answer c = omega arith

@@ -39,9 +39,8 @@ with_opening-tally-requires c κs = search rules
 
 all_turns-q-requires : tie.Need-all_turns-q-requires
 all_turns-q-requires c κs =
-    let d = c.before.before.before.before.before.before in
-    let o = d.«open» in
-    o.ensures.valid (setup_of o.result.session) (sym o.ensures.says ∙ ap (opening_of o.result.session) d.in-Fine.is)
+    let o = c.«open» in
+    o.ensures.valid (setup_of o.result.session) (sym o.ensures.says ∙ ap (opening_of o.result.session) c.in-Fine.is)
 
 returns : tie.Need-returns
 returns c = search rules

@@ -37,16 +37,11 @@ refused-requires c κs = search rules
 
 returns-in_default-by_rows : tie.Need-returns-in_default-by_rows
 returns-in_default-by_rows c =
-    let l = c.before.before in
-    let k = l.before in
-    by_table _ _ _ _ (reading k).read-read.ensures k.in-Files-2.is l.lent-by_rows.ensures c.in_default-by_rows.is _ c.refused.ensures
+    by_table _ _ _ _ (reading c.before.before.before).read-read.ensures c.in-Files.is c.lent-by_rows.ensures c.in_default-by_rows.is _ c.refused.ensures
 
 walk-sums-requires : tie.Need-walk-sums-requires
 walk-sums-requires c κs =
-    let f = c.before.before in
-    let l = f.before in
-    let k = l.before in
-    ((read_as _ (reading k).read-read.ensures k.in-Files-2.is).1, room _ l.lent-by_rows.ensures f.in-Fine.is)
+    ((read_as _ (reading c.before.before.before.before).read-read.ensures c.in-Files.is).1, room _ c.lent-by_rows.ensures c.in-Fine.is)
 
 write_slots-requires : tie.Need-write_slots-requires
 write_slots-requires c κs = search rules
@@ -56,11 +51,7 @@ shape_of-rows c = search rules
 
 returns : tie.Need-returns
 returns c =
-    let w = c.before.before.before.before in
-    let f = w.before.before.before in
-    let l = f.before in
-    let k = l.before in
-    by_walk _ _ _ _ (reading k).read-read.ensures k.in-Files-2.is l.lent-by_rows.ensures f.in-Fine.is w.walk-sums.ensures c.write_slots.ensures
+    by_walk _ _ _ _ (reading c.before.before.before.before.before.before.before.before.before).read-read.ensures c.in-Files.is c.lent-by_rows.ensures c.in-Fine.is c.walk-sums.ensures c.write_slots.ensures
 
 pub total_spec : {M : Type 1} → statement M
 total_spec =

@@ -27,8 +27,7 @@ file-requires c κs = omega arith
 add_line-sums-requires : tie.Need-add_line-sums-requires invariant-loop-i decreases-loop-i
 add_line-sums-requires c κs =
     let l = c.loop-i in
-    let s = c.before.before.before.before.before.before.before.before in
-    (omega (arith, few_files s.args.bundle.now, s.requires.0), upto_small _ _ l.invariant.upto (omega (arith, few_files s.args.bundle.now, s.requires.0)))
+    (omega (arith, few_files c.args.bundle.now, c.requires.0), upto_small _ _ l.invariant.upto (omega (arith, few_files c.args.bundle.now, c.requires.0)))
 
 overflow_add-i : tie.Need-overflow_add-i invariant-loop-i decreases-loop-i
 overflow_add-i c = omega arith
@@ -39,16 +38,14 @@ loop-i-smaller c = omega arith
 loop-i-preserved : tie.Need-loop-i-preserved invariant-loop-i decreases-loop-i
 loop-i-preserved c =
     let l = c.loop-i in
-    let s = c.before.before.before.before.before.before.before.before.before.before.before in
-    lines_next _ _ _ l.invariant s.requires.1 (omega (arith, s.requires.0)) c.file.ensures c.add_line-sums.ensures
+    lines_next _ _ _ l.invariant c.requires.1 (omega (arith, c.requires.0)) c.file.ensures c.add_line-sums.ensures
 
 shape_of-rows : tie.Need-shape_of-rows invariant-loop-i decreases-loop-i
 shape_of-rows c = omega arith
 
 returns : tie.Need-returns invariant-loop-i decreases-loop-i
 returns c =
-    let s = c.before.before.before.before.before in
-    lines_all _ _ _ c.loop-i.invariant (omega (arith, s.requires.0))
+    lines_all _ _ _ c.loop-i.invariant (omega (arith, c.requires.0))
 
 pub walk_spec : {M : Type 1} → statement M
 walk_spec =

@@ -9,18 +9,15 @@ clear_rows-requires c κs = omega arith
 
 put_all-requires : tie.Need-put_all-requires
 put_all-requires c κs =
-    let e = c.before.before.before.before.before in
-    let p = e.requires in
-    (begins p e.clear_rows.ensures, p.is_size)
+    let p = c.requires in
+    (begins p c.clear_rows.ensures, p.is_size)
 
 shape_of-rows : tie.Need-shape_of-rows
 shape_of-rows c = omega arith
 
 returns : tie.Need-returns
 returns c =
-    let s = c.before.before in
-    let e = s.before.before.before.before.before.before in
-    attempted e.requires e.clear_rows.ensures s.put_all.ensures
+    attempted c.requires c.clear_rows.ensures c.put_all.ensures
 
 pub attempt_spec : {M : Type 1} → statement M
 attempt_spec =

@@ -27,7 +27,7 @@ abbrev entry : tie.At-loop-order invariant-loop-order decreases-loop-order → t
 entry a = a.before.before.before.before.before.before.before
 
 attempt-requires : tie.Need-attempt-requires invariant-loop-order decreases-loop-order
-attempt-requires c κs = let a = c.before.before.before.before.before in ready_again (entry a).requires a.loop-order.invariant.1
+attempt-requires c κs = ready_again (entry c.before.before.before.before.before).requires c.loop-order.invariant.1
 
 -- after an attempt
 left_by : (c : tie.After-attempt invariant-loop-order decreases-loop-order) → let s = (entry c.before.before.before.before.before.before).args in
@@ -38,7 +38,7 @@ shape_of-rows-then-attempt : tie.Need-shape_of-rows-then-attempt invariant-loop-
 shape_of-rows-then-attempt c = (left_by c.before.before.before).rows_length
 
 returns-then-attempt : tie.Need-returns-then-attempt invariant-loop-order decreases-loop-order
-returns-then-attempt c = let w = c.before.before.before in record { found = λ e. w.attempt.ensures.found c.if-attempt.true; untouched = left_by w }
+returns-then-attempt c = record { found = λ e. c.attempt.ensures.found c.if-attempt.true; untouched = left_by c.before.before.before }
 
 overflow_add-order : tie.Need-overflow_add-order invariant-loop-order decreases-loop-order
 overflow_add-order c = omega arith

@@ -19,7 +19,7 @@ rank_all-requires : tie.Need-rank_all-requires invariant-loop-ranks decreases-lo
 rank_all-requires c κs = let p = c.requires in (p.0.accepted, p.1)
 
 overflow_mul-left : tie.Need-overflow_mul-left invariant-loop-ranks decreases-loop-ranks
-overflow_mul-left c = let s = c.before.before.before.before in omega (arith, s.requires.1, few_operations s.args.file.now s.requires.0.accepted)
+overflow_mul-left c = omega (arith, c.requires.1, few_operations c.args.file.now c.requires.0.accepted)
 
 loop-ranks-init : tie.Need-loop-ranks-init invariant-loop-ranks decreases-loop-ranks
 loop-ranks-init c = record { board = c.requires.0; rest = refl }
@@ -34,46 +34,43 @@ as_long a = kept_length (entry a).requires.0 a.loop-ranks.invariant
 
 pick-op-requires : tie.Need-pick-op-requires invariant-loop-ranks decreases-loop-ranks
 pick-op-requires c κs =
-    let a = c.before.before in
-    let b = a.loop.invariant.board in
-    (omega (arith, (entry a).requires.1, few_operations (entry a).args.file.now b.accepted), b.sane.whole)
+    let b = c.loop-ranks.invariant.board in
+    (omega (arith, (entry c.before).requires.1, few_operations (entry c.before).args.file.now b.accepted), b.sane.whole)
 
 shape_of-rows-then-op-n : tie.Need-shape_of-rows-then-op-n invariant-loop-ranks decreases-loop-ranks
 shape_of-rows-then-op-n c = as_long c.before.before.before
 
 returns-then-op-n : tie.Need-returns-then-op-n invariant-loop-ranks decreases-loop-ranks
-returns-then-op-n c = record { kept = c.loop.invariant; all = λ e. c.pick-op.ensures.none_left c.if-op-n.true }
+returns-then-op-n c = record { kept = c.loop-ranks.invariant; all = λ e. c.pick-op.ensures.none_left c.if-op-n.true }
 
 shape_of-rows-then-left-eq0 : tie.Need-shape_of-rows-then-left-eq0 invariant-loop-ranks decreases-loop-ranks
 shape_of-rows-then-left-eq0 c = as_long c.before.before.before.before
 
 returns-then-left-eq0 : tie.Need-returns-then-left-eq0 invariant-loop-ranks decreases-loop-ranks
-returns-then-left-eq0 c = record { kept = c.loop.invariant; all = λ e. true_false (sym e) }
+returns-then-left-eq0 c = record { kept = c.loop-ranks.invariant; all = λ e. true_false (sym e) }
 
 overflow_sub-left : tie.Need-overflow_sub-left invariant-loop-ranks decreases-loop-ranks
 overflow_sub-left c = omega arith
 
 step-requires : tie.Need-step-requires invariant-loop-ranks decreases-loop-ranks
 step-requires c κs =
-    let e = c.before.before.before.before in
-    let a = e.before.before.before.before in
-    (a.loop.invariant.board, omega (arith, (e.pick-op.ensures.highest e.if-op-n.false).inside, (entry a).requires.1))
+    (c.loop-ranks.invariant.board, omega (arith, (c.pick-op.ensures.highest c.if-op-n.false).inside, (entry c.before.before.before.before.before.before.before).requires.1))
 
 -- the turn's beginning, from after the step
 abbrev turn : tie.After-step invariant-loop-ranks decreases-loop-ranks → tie.At-loop-ranks invariant-loop-ranks decreases-loop-ranks
 turn c = c.before.before.before.before.before.before.before.before.before
 
 shape_of-rows-then-not-step : tie.Need-shape_of-rows-then-not-step invariant-loop-ranks decreases-loop-ranks
-shape_of-rows-then-not-step c = let w = c.before.before.before in kept_length (entry (turn w)).requires.0 (kept_again (turn w).loop-ranks.invariant w.step.ensures)
+shape_of-rows-then-not-step c = kept_length (entry (turn c.before.before.before)).requires.0 (kept_again (turn c.before.before.before).loop-ranks.invariant c.step.ensures)
 
 returns-then-not-step : tie.Need-returns-then-not-step invariant-loop-ranks decreases-loop-ranks
-returns-then-not-step c = let w = c.before.before.before in record { kept = kept_again (turn w).loop-ranks.invariant w.step.ensures; all = λ e. true_false (sym e) }
+returns-then-not-step c = record { kept = kept_again (turn c.before.before.before).loop-ranks.invariant c.step.ensures; all = λ e. true_false (sym e) }
 
 loop-ranks-smaller : tie.Need-loop-ranks-smaller invariant-loop-ranks decreases-loop-ranks
 loop-ranks-smaller c = omega arith
 
 loop-ranks-preserved : tie.Need-loop-ranks-preserved invariant-loop-ranks decreases-loop-ranks
-loop-ranks-preserved c = let w = c.before.before.before in kept_again (turn w).loop-ranks.invariant w.step.ensures
+loop-ranks-preserved c = kept_again (turn c.before.before.before).loop-ranks.invariant c.step.ensures
 
 pub put_all_spec : {M : Type 1} → statement M
 put_all_spec =

@@ -30,7 +30,7 @@ returns-then-horizon-start : tie.Need-returns-then-horizon-start
 returns-then-horizon-start c = record { board = c.requires.0; rest = refl }
 
 force-requires : tie.Need-force-requires
-force-requires c κs = let s = c.before.before.before.before.before.before.before.before.before in (omega arith, rw take-length s.requires.0)
+force-requires c κs = (omega arith, rw take-length c.requires.0)
 
 -- the function's entry, from its end
 abbrev entry : tie.After-slice_known-2-1 → tie.Start

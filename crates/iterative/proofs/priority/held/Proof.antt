@@ -37,8 +37,7 @@ entry i = i.before.before.before.before.before
 here : (i : tie.In-loop-j invariant-loop-j decreases-loop-j) → UseHere (entry i).args.file.now (entry i).args.op i.loop-j.j (i.first_use-first.result + i.loop-j.j)
 here i =
     let s = entry i in
-    let f = i.before.before.before in
-    use_here s.args.file.now s.args.op i.loop-j.j f.first_use-first.result i.use_count-n.result s.requires.0 s.requires.1 f.first_use-first.ensures
+    use_here s.args.file.now s.args.op i.loop-j.j i.first_use-first.result i.use_count-n.result s.requires.0 s.requires.1 i.first_use-first.ensures
     i.use_count-n.ensures i.loop-j-test.true
 
 -- each use ends within 16 cycles
@@ -59,9 +58,8 @@ adds c = c.duration-sum.ensures ∙ ap (λ (u : Use). u.duration) (here c.before
 
 overflow_add-sum : tie.Need-overflow_add-sum invariant-loop-j decreases-loop-j
 overflow_add-sum c =
-    let i = c.before in
-    let j = i.loop-j.j in
-    omega (arith, i.loop-j.invariant.1, adds c, short i j (omega arith), (here i).small, sum_most (λ k. (use_at (op_at (loop_of (entry i).args.file.now) (entry i).args.op) k).duration) 16 0 j (λ k l m. short i k (omega arith)))
+    let j = c.loop-j.j in
+    omega (arith, c.loop-j.invariant.1, adds c, short c.before j (omega arith), (here c.before).small, sum_most (λ k. (use_at (op_at (loop_of (entry c.before).args.file.now) (entry c.before).args.op) k).duration) 16 0 j (λ k l m. short c.before k (omega arith)))
 
 overflow_add-j : tie.Need-overflow_add-j invariant-loop-j decreases-loop-j
 overflow_add-j c = omega arith
@@ -74,10 +72,8 @@ loop-j-preserved c = (omega arith, ap₂ ◌+◌ c.loop-j.invariant.1 (adds c) �
 
 returns : tie.Need-returns invariant-loop-j decreases-loop-j
 returns c =
-    let a = c.before in
-    let s = a.before.before.before.before in
-    let e : a.loop-j.j ≡ length (op_at (loop_of s.args.file.now) s.args.op).uses = omega (arith, a.use_count-n.ensures) in
-    rw e at a.loop-j.invariant.1
+    let e : c.loop-j.j ≡ length (op_at (loop_of c.args.file.now) c.args.op).uses = omega (arith, c.use_count-n.ensures) in
+    rw e at c.loop-j.invariant.1
 
 pub held_spec : {M : Type 1} → statement M
 held_spec =

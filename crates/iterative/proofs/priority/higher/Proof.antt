@@ -6,7 +6,7 @@ use Rattle.iterative.proofs.priority.higher.Statement.{statement}
 use Rattle.iterative.proofs.priority.higher.Tie as tie
 
 returns-then-best-n : tie.Need-returns-then-best-n
-returns-then-best-n c = let s = c.before in rw (eq-eqb s.args.best s.args.n c.if-best-n.true)
+returns-then-best-n c = rw (eq-eqb c.args.best c.args.n c.if-best-n.true)
 
 offset_bounds-ranks-best : tie.Need-offset_bounds-ranks-best
 offset_bounds-ranks-best c = omega arith
@@ -22,13 +22,11 @@ bounds-ranks-o c = omega arith
 
 returns-then-ranks-best : tie.Need-returns-then-ranks-best
 returns-then-ranks-best c =
-    let s = c.before.before.before.before.before in
-    rw (ne_eqb s.args.best s.args.n c.if-best-n.false, lt-ltb (get_or s.args.ranks.now s.args.best 0) (get_or s.args.ranks.now s.args.o 0) c.if-ranks-best.true)
+    rw (ne_eqb c.args.best c.args.n c.if-best-n.false, lt-ltb (get_or c.args.ranks.now c.args.best 0) (get_or c.args.ranks.now c.args.o 0) c.if-ranks-best.true)
 
 returns : tie.Need-returns
 returns c =
-    let s = c.before.before.before.before.before in
-    rw (ne_eqb s.args.best s.args.n c.if-best-n.false, le-ltb (get_or s.args.ranks.now s.args.best 0) (get_or s.args.ranks.now s.args.o 0) c.if-ranks-best.false)
+    rw (ne_eqb c.args.best c.args.n c.if-best-n.false, le-ltb (get_or c.args.ranks.now c.args.best 0) (get_or c.args.ranks.now c.args.o 0) c.if-ranks-best.false)
 
 pub higher_spec : {M : Type 1} → statement M
 higher_spec =

@@ -34,7 +34,7 @@ nonzero_rem-result-2 : tie.Need-nonzero_rem-result-2
 nonzero_rem-result-2 c = omega arith
 
 returns : tie.Need-returns
-returns c = let s = c.before in omega (arith, mod-lt (z s * z s * z s % 65537) {m = c.spread.result} c.spread.ensures.0, c.spread.ensures.1)
+returns c = omega (arith, mod-lt (z c.before * z c.before * z c.before % 65537) {m = c.spread.result} c.spread.ensures.0, c.spread.ensures.1)
 
 pub noise_spec : {M : Type 1} → statement M
 noise_spec =

@@ -26,7 +26,7 @@ bounds-starts-o : tie.Need-bounds-starts-o invariant-loop-o decreases-loop-o
 bounds-starts-o c = omega arith
 
 higher-best-requires : tie.Need-higher-best-requires invariant-loop-o decreases-loop-o
-higher-best-requires c κs = let a = c.before.before.before.before in (a.requires.0, pick_within a.loop-o.invariant.1 a.loop-o.invariant.0, omega arith)
+higher-best-requires c κs = (c.requires.0, pick_within c.loop-o.invariant.1 c.loop-o.invariant.0, omega arith)
 
 overflow_add-o : tie.Need-overflow_add-o invariant-loop-o decreases-loop-o
 overflow_add-o c = omega arith
@@ -35,23 +35,21 @@ loop-o-smaller : tie.Need-loop-o-smaller invariant-loop-o decreases-loop-o
 loop-o-smaller c = omega arith
 
 -- the operation whose turn it is
-here : (i : tie.In-loop-o invariant-loop-o decreases-loop-o) → let a = i.before in get_or a.args.starts.now a.loop-o.o 0 ≡ get_or a.args.starts.now a.loop-o.o 65535
-here i = let a = i.before in get_or_within a.args.starts.now a.loop-o.o 0 65535 (omega arith)
+here : (i : tie.In-loop-o invariant-loop-o decreases-loop-o) → get_or i.args.starts.now i.loop-o.o 0 ≡ get_or i.args.starts.now i.loop-o.o 65535
+here i = let i.before = i.before in get_or_within i.args.starts.now i.loop-o.o 0 65535 (omega arith)
 
 loop-o-preserved : tie.Need-loop-o-preserved invariant-loop-o decreases-loop-o
 loop-o-preserved c =
-    let i = c.before.before.before in
-    let p = i.loop-o.invariant.1 in
+    let p = c.loop-o.invariant.1 in
     ⊎_elim
-    (λ w. rw w.2 (omega arith, pick_next p (omega arith) (sym (here i) ∙ w.0.taken) w.1.ensures))
-    (λ w. rw w.1 (omega arith, pick_past p (λ q. w.0.left (here i ∙ q))))
+    (λ w. rw w.2 (omega arith, pick_next p (omega arith) (sym (here c.before.before.before) ∙ w.0.taken) w.1.ensures))
+    (λ w. rw w.1 (omega arith, pick_past p (λ q. w.0.left (here c.before.before.before ∙ q))))
     c.if-starts-o.branch-raw
 
 returns : tie.Need-returns invariant-loop-o decreases-loop-o
 returns c =
-    let a = c.before in
-    let e : a.loop-o.o ≡ a.args.n = omega arith in
-    rw e at a.loop-o.invariant.1
+    let e : c.loop-o.o ≡ c.args.n = omega arith in
+    rw e at c.loop-o.invariant.1
 
 pub pick_spec : {M : Type 1} → statement M
 pick_spec =

@@ -12,7 +12,7 @@ abbrev decreases-loop-o : tie.decreases-loop-o
 decreases-loop-o file n order high early ranks₀ priority o₀ ranks o = n - o
 
 loop-o-init : tie.Need-loop-o-init invariant-loop-o decreases-loop-o
-loop-o-init c = let s = c.before in (omega arith, omega (arith, few_operations s.args.file.now s.requires.0))
+loop-o-init c = (omega arith, omega (arith, few_operations c.args.file.now c.requires.0))
 
 offset_bounds-high-o : tie.Need-offset_bounds-high-o invariant-loop-o decreases-loop-o
 offset_bounds-high-o c = omega arith

@@ -24,13 +24,11 @@ few s = (accepted_ok s.args.file.now s.requires.0).few
 -- so each of its ends has a place
 far_inside : (j : tie.Joined-forward) → j.if-forward.far < 64
 far_inside j =
-    let s = j.before.before.before.before in
-    ⊎_elim (λ w. omega (arith, (dep_ok s).source, few s)) (λ w. omega (arith, (dep_ok s).target, few s)) j.if-forward.branch-raw
+    ⊎_elim (λ w. omega (arith, (dep_ok j.before.before.before.before).source, few j.before.before.before.before)) (λ w. omega (arith, (dep_ok j.before.before.before.before).target, few j.before.before.before.before)) j.if-forward.branch-raw
 
 near_inside : (j : tie.Joined-forward-2) → j.if-forward-2.near < 64
 near_inside j =
-    let s = j.before.before.before.before.before in
-    ⊎_elim (λ w. omega (arith, (dep_ok s).target, few s)) (λ w. omega (arith, (dep_ok s).source, few s)) j.if-forward-2.branch-raw
+    ⊎_elim (λ w. omega (arith, (dep_ok j.before.before.before.before.before).target, few j.before.before.before.before.before)) (λ w. omega (arith, (dep_ok j.before.before.before.before.before).source, few j.before.before.before.before.before)) j.if-forward-2.branch-raw
 
 offset_bounds-lengths-far : tie.Need-offset_bounds-lengths-far
 offset_bounds-lengths-far c = omega (arith, far_inside c.before.before)

@@ -18,9 +18,8 @@ loop-e-init c = omega arith
 
 relax-rose-requires : tie.Need-relax-rose-requires invariant-loop-e decreases-loop-e
 relax-rose-requires c κs =
-    let m = c.before.before.before in
-    let p = m.requires in
-    (p.0, omega (arith, m.dep_count-m.ensures), p.1)
+    let p = c.requires in
+    (p.0, omega (arith, c.dep_count-m.ensures), p.1)
 
 overflow_add-e : tie.Need-overflow_add-e invariant-loop-e decreases-loop-e
 overflow_add-e c = omega arith

@@ -6,7 +6,7 @@ use Rattle.iterative.proofs.timing.choose_start.Statement.{statement}
 use Rattle.iterative.proofs.timing.choose_start.Tie as tie
 
 width_of-width-requires : tie.Need-width_of-width-requires
-width_of-width-requires c κs = let s = c.before.before in (s.requires.0.accepted, s.requires.1)
+width_of-width-requires c κs = (c.requires.0.accepted, c.requires.1)
 
 earliest_start-from-requires : tie.Need-earliest_start-from-requires
 earliest_start-from-requires c κs = let b = c.requires.0 in (b.accepted, b.numbers.short, (board_far b).sane)
@@ -14,21 +14,18 @@ earliest_start-from-requires c κs = let b = c.requires.0 in (b.accepted, b.numb
 first_free-s-requires : tie.Need-first_free-s-requires
 first_free-s-requires c κs =
     let w = c.width_of-width.ensures in
-    let s = c.before.before.before.before in
-    let b = s.requires.0 in
-    (record { accepted = b.accepted; inside = s.requires.1; some = b.numbers.some; short = b.numbers.short; long = b.held.long; wide = w.1; narrow = w.2 }, b.numbers.far)
+    let b = c.requires.0 in
+    (record { accepted = b.accepted; inside = c.requires.1; some = b.numbers.some; short = b.numbers.short; long = b.held.long; wide = w.1; narrow = w.2 }, b.numbers.far)
 
 returns-then-s-horizon : tie.Need-returns-then-s-horizon
 returns-then-s-horizon c =
-    let f = c.before in
-    let w = f.before.before in
     record {
-      width = w.width_of-width.result;
-      width_is = w.width_of-width.ensures.0;
-      from = f.earliest_start-from.result;
-      from_is = f.earliest_start-from.ensures;
-      free = f.first_free-s.result;
-      free_is = f.first_free-s.ensures;
+      width = c.width_of-width.result;
+      width_is = c.width_of-width.ensures.0;
+      from = c.earliest_start-from.result;
+      from_is = c.earliest_start-from.ensures;
+      free = c.first_free-s.result;
+      free_is = c.first_free-s.ensures;
       found = λ l. refl;
       forced = λ l. absurd (omega arith);
     }
@@ -38,25 +35,21 @@ larger-requires c κs = omega arith
 
 to_grid-requires : tie.Need-to_grid-requires
 to_grid-requires c κs =
-    let a = c.before.before.before.before in
-    let n = a.requires.0.numbers in
-    let w = a.width_of-width.ensures in
+    let n = c.requires.0.numbers in
+    let w = c.width_of-width.ensures in
     (n.some, n.short, w.1, w.2, n.far)
 
 returns : tie.Need-returns
 returns c =
-    let g = c.before in
-    let f = g.before.before in
-    let w = f.before.before in
     record {
-      width = w.width_of-width.result;
-      width_is = w.width_of-width.ensures.0;
-      from = f.earliest_start-from.result;
-      from_is = f.earliest_start-from.ensures;
-      free = f.first_free-s.result;
-      free_is = f.first_free-s.ensures;
+      width = c.width_of-width.result;
+      width_is = c.width_of-width.ensures.0;
+      from = c.earliest_start-from.result;
+      from_is = c.earliest_start-from.ensures;
+      free = c.first_free-s.result;
+      free_is = c.first_free-s.ensures;
       found = λ l. absurd (omega arith);
-      forced = λ l. rw g.larger.ensures at c.to_grid.ensures;
+      forced = λ l. rw c.larger.ensures at c.to_grid.ensures;
     }
 
 pub choose_start_spec : {M : Type 1} → statement M

@@ -46,10 +46,9 @@ wide-start-requires c κs = omega arith
 -- its start
 start_is : (c : tie.After-wide-start) → let s = entry c.before.before.before in get_or s.args.starts.now (dep_at (loop_of s.args.file.now) s.args.e).src 65535 ≡ c.wide-start.result
 start_is c =
-    let k = c.before.before.before in
-    let s = entry k in
-    ap (λ (o : ℕ). get_or s.args.starts.now o 65535) (sym k.source-from.ensures)
-    ∙ get_or_within s.args.starts.now k.source-from.result 65535 0 (omega (arith, inside k, s.requires.3.whole))
+    let s = entry c.before.before.before in
+    ap (λ (o : ℕ). get_or s.args.starts.now o 65535) (sym c.source-from.ensures)
+    ∙ get_or_within s.args.starts.now c.source-from.result 65535 0 (omega (arith, inside c.before.before.before, s.requires.3.whole))
     ∙ sym c.wide-start.ensures
 
 returns-then-start-eq65535 : tie.Need-returns-then-start-eq65535
@@ -57,17 +56,12 @@ returns-then-start-eq65535 c = due_blank (start_is c.before ∙ c.if-start-eq655
 
 earliest-requires : tie.Need-earliest-requires
 earliest-requires c κs =
-    let w = c.before in
-    let s = entry w.before.before.before in
-    (s.requires.0, s.requires.1, rw (start_is w) at (sane_near s.requires.3 _ (λ q. c.if-start-eq65535.false (sym (start_is w) ∙ q))), s.requires.2)
+    let s = entry c.before.before.before.before in
+    (s.requires.0, s.requires.1, rw (start_is c.before) at (sane_near s.requires.3 _ (λ q. c.if-start-eq65535.false (sym (start_is c.before) ∙ q))), s.requires.2)
 
 returns : tie.Need-returns
 returns c =
-    let e = c.before in
-    let w = e.before in
-    let k = w.before.before.before in
-    let t = k.before.before.before in
-    due_placed (sym t.target.ensures ∙ k.if-target-op.false) (λ q. k.if-from-op.false (k.source-from.ensures ∙ q)) (start_is w) e.if-start-eq65535.false c.earliest.ensures
+    due_placed (sym c.target.ensures ∙ c.if-target-op.false) (λ q. c.if-from-op.false (c.source-from.ensures ∙ q)) (start_is c.before.before) c.if-start-eq65535.false c.earliest.ensures
 
 pub due_spec : {M : Type 1} → statement M
 due_spec =

@@ -23,9 +23,8 @@ loop-e-init c = (omega arith, earliest_first)
 
 due-requires : tie.Need-due-requires invariant-loop-e decreases-loop-e
 due-requires c κs =
-    let m = c.before.before in
-    let p = m.requires in
-    (p.0, omega (arith, m.dep_count-m.ensures), p.1, p.2)
+    let p = c.requires in
+    (p.0, omega (arith, c.dep_count-m.ensures), p.1, p.2)
 
 larger-from-requires : tie.Need-larger-from-requires invariant-loop-e decreases-loop-e
 larger-from-requires c κs = omega arith
@@ -41,9 +40,8 @@ loop-e-preserved c = (omega arith, earliest_next c.loop-e.invariant.1 c.due.ensu
 
 returns : tie.Need-returns invariant-loop-e decreases-loop-e
 returns c =
-    let a = c.before in
-    let n : a.loop-e.e ≡ length (loop_of a.args.file.now).deps = omega (arith, a.dep_count-m.ensures) in
-    rw n at a.loop-e.invariant.1
+    let n : c.loop-e.e ≡ length (loop_of c.args.file.now).deps = omega (arith, c.dep_count-m.ensures) in
+    rw n at c.loop-e.invariant.1
 
 pub earliest_start_spec : {M : Type 1} → statement M
 earliest_start_spec =

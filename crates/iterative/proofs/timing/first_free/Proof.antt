@@ -23,22 +23,19 @@ loop-s-init : tie.Need-loop-s-init invariant-loop-s decreases-loop-s
 loop-s-init c = (omega arith, omega arith, λ t b a. absurd (omega arith))
 
 returns-then-k-interval : tie.Need-returns-then-k-interval invariant-loop-s decreases-loop-s
-returns-then-k-interval c = let a = c.before.before in record { within = omega arith; none_before = λ t m l k. a.loop-s.invariant.2 t (omega arith) l; found = λ m. absurd (omega arith) }
+returns-then-k-interval c = record { within = omega arith; none_before = λ t m l k. c.loop-s.invariant.2 t (omega arith) l; found = λ m. absurd (omega arith) }
 
 suits-requires : tie.Need-suits-requires invariant-loop-s decreases-loop-s
 suits-requires c κs =
-    let f = c.before.before.before in
-    let p = f.requires in
-    (p.0, omega arith, f.first_use-first.ensures)
+    let p = c.requires in
+    (p.0, omega arith, c.first_use-first.ensures)
 
 returns-then-suits : tie.Need-returns-then-suits invariant-loop-s decreases-loop-s
 returns-then-suits c =
-    let d = c.before in
-    let a = d.before.before.before in
     record {
       within = omega arith;
-      none_before = λ t m l k. a.loop-s.invariant.2 t m l;
-      found = λ m. (omega arith, omega arith, d.suits.ensures.yes c.if-suits.true);
+      none_before = λ t m l k. c.loop-s.invariant.2 t m l;
+      found = λ m. (omega arith, omega arith, c.suits.ensures.yes c.if-suits.true);
     }
 
 overflow_add-k : tie.Need-overflow_add-k invariant-loop-s decreases-loop-s
@@ -52,12 +49,10 @@ loop-s-smaller c = omega arith
 
 loop-s-preserved : tie.Need-loop-s-preserved invariant-loop-s decreases-loop-s
 loop-s-preserved c =
-    let d = c.before in
-    let a = d.before.before.before in
-    (omega arith, omega arith, below_more _ a.loop-s.s a.loop-s.invariant.2 (λ l. d.suits.ensures.no c.if-suits.false))
+    (omega arith, omega arith, below_more _ c.loop-s.s c.loop-s.invariant.2 (λ l. c.suits.ensures.no c.if-suits.false))
 
 returns : tie.Need-returns invariant-loop-s decreases-loop-s
-returns c = let a = c.before in record { within = omega arith; none_before = λ t m l k. a.loop-s.invariant.2 t (omega arith) l; found = λ m. absurd (omega arith) }
+returns c = record { within = omega arith; none_before = λ t m l k. c.loop-s.invariant.2 t (omega arith) l; found = λ m. absurd (omega arith) }
 
 pub first_free_spec : {M : Type 1} → statement M
 first_free_spec =

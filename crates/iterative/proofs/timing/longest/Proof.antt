@@ -38,8 +38,7 @@ entry i = i.before.before.before.before.before
 here : (i : tie.In-loop-j invariant-loop-j decreases-loop-j) → UseHere (entry i).args.file.now (entry i).args.op i.loop-j.j (i.first_use-first.result + i.loop-j.j)
 here i =
     let s = entry i in
-    let f = i.before.before.before in
-    use_here s.args.file.now s.args.op i.loop-j.j f.first_use-first.result i.use_count-n.result s.requires.0 s.requires.1 f.first_use-first.ensures
+    use_here s.args.file.now s.args.op i.loop-j.j i.first_use-first.result i.use_count-n.result s.requires.0 s.requires.1 i.first_use-first.ensures
     i.use_count-n.ensures i.loop-j-test.true
 
 overflow_add-first : tie.Need-overflow_add-first invariant-loop-j decreases-loop-j
@@ -59,24 +58,20 @@ loop-j-smaller c = omega arith
 
 loop-j-preserved : tie.Need-loop-j-preserved invariant-loop-j decreases-loop-j
 loop-j-preserved c =
-    let d = c.before in
-    let i = d.before in
-    let s = entry i in
-    let j = i.loop-j.j in
+    let s = entry c.before.before in
+    let j = c.loop-j.j in
     let f = s.args.file.now in
     let p = op_at (loop_of f) s.args.op in
-    let turn : d.duration.result ≡ (use_at p j).duration = d.duration.ensures ∙ ap (λ (u : Use). u.duration) (here i).is in
+    let turn : c.duration.result ≡ (use_at p j).duration = c.duration.ensures ∙ ap (λ (u : Use). u.duration) (here c.before.before).is in
     let next : max_of (λ k. (use_at p k).duration) (up_from 0 (j + 1)) ≡ _ = max_next (λ k. (use_at p k).duration) 0 j in
     let zero-j : (use_at p (0 + j)).duration ≡ (use_at p j).duration = ap (λ (k : ℕ). (use_at p k).duration) (zero-add j) in
-    let short = (((accepted_ok f s.requires.0).op_ok s.args.op s.requires.1).each j (omega (arith, i.use_count-n.ensures))).ends in
-    (omega arith, omega (arith, c.larger-most.ensures, turn, next, zero-j, i.loop-j.invariant.1), omega (arith, c.larger-most.ensures, turn, short, i.loop-j.invariant.2))
+    let short = (((accepted_ok f s.requires.0).op_ok s.args.op s.requires.1).each j (omega (arith, c.use_count-n.ensures))).ends in
+    (omega arith, omega (arith, c.larger-most.ensures, turn, next, zero-j, c.loop-j.invariant.1), omega (arith, c.larger-most.ensures, turn, short, c.loop-j.invariant.2))
 
 returns : tie.Need-returns invariant-loop-j decreases-loop-j
 returns c =
-    let a = c.before in
-    let s = a.before.before.before.before in
-    let e : a.loop-j.j ≡ length (op_at (loop_of s.args.file.now) s.args.op).uses = omega (arith, a.use_count-n.ensures) in
-    (rw e at a.loop-j.invariant.1, a.loop-j.invariant.2)
+    let e : c.loop-j.j ≡ length (op_at (loop_of c.args.file.now) c.args.op).uses = omega (arith, c.use_count-n.ensures) in
+    (rw e at c.loop-j.invariant.1, c.loop-j.invariant.2)
 
 pub longest_spec : {M : Type 1} → statement M
 longest_spec =

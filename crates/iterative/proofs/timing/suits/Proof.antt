@@ -10,21 +10,17 @@ on_grid-requires c κs = let g = c.requires.0 in (g.some, g.short, g.wide, g.nar
 
 returns-then-not-on_grid : tie.Need-returns-then-not-on_grid
 returns-then-not-on_grid c =
-    let g = c.before in
-    record { yes = λ e. true_false (sym e); no = λ e s. true_false (sym s.on ∙ sym g.on_grid.ensures ∙ c.if-not-on_grid.true) }
+    record { yes = λ e. true_false (sym e); no = λ e s. true_false (sym s.on ∙ sym c.on_grid.ensures ∙ c.if-not-on_grid.true) }
 
 is_free-requires : tie.Need-is_free-requires
 is_free-requires c κs =
-    let s = c.before.before.before.before in
-    let g = s.requires.0 in
-    (g.accepted, g.inside, s.requires.1, g.some, g.short, g.long, s.requires.2)
+    let g = c.requires.0 in
+    (g.accepted, g.inside, c.requires.1, g.some, g.short, g.long, c.requires.2)
 
 returns : tie.Need-returns
 returns c =
-    let d = c.before in
-    let g = d.before in
     record {
-      yes = λ e. record { on = sym g.on_grid.ensures ∙ d.if-not-on_grid.false; free = c.is_free.ensures.yes e };
+      yes = λ e. record { on = sym c.on_grid.ensures ∙ c.if-not-on_grid.false; free = c.is_free.ensures.yes e };
       no = λ e s. c.is_free.ensures.no e s.free;
     }
 

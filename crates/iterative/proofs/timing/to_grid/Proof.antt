@@ -22,9 +22,7 @@ on_grid-requires c κs = let p = c.requires in (p.0, p.1, p.2, p.3)
 
 returns-then-on_grid : tie.Need-returns-then-on_grid invariant-loop-s decreases-loop-s
 returns-then-on_grid c =
-    let g = c.before in
-    let h = g.before.before in
-    record { late = h.loop-s.invariant.0; none_before = h.loop-s.invariant.1; on = λ l. sym g.on_grid.ensures ∙ c.if-on_grid.true }
+    record { late = c.loop-s.invariant.0; none_before = c.loop-s.invariant.1; on = λ l. sym c.on_grid.ensures ∙ c.if-on_grid.true }
 
 overflow_add-s : tie.Need-overflow_add-s invariant-loop-s decreases-loop-s
 overflow_add-s c = omega arith
@@ -34,12 +32,10 @@ loop-s-smaller c = omega arith
 
 loop-s-preserved : tie.Need-loop-s-preserved invariant-loop-s decreases-loop-s
 loop-s-preserved c =
-    let g = c.before in
-    let h = g.before.before in
-    (omega (arith, h.loop-s.invariant.0), below_more _ h.loop-s.s h.loop-s.invariant.1 (λ l. (omega arith, sym g.on_grid.ensures ∙ c.if-on_grid.false)))
+    (omega (arith, c.loop-s.invariant.0), below_more _ c.loop-s.s c.loop-s.invariant.1 (λ l. (omega arith, sym c.on_grid.ensures ∙ c.if-on_grid.false)))
 
 returns : tie.Need-returns invariant-loop-s decreases-loop-s
-returns c = let h = c.before in record { late = h.loop-s.invariant.0; none_before = h.loop-s.invariant.1; on = λ l. absurd (omega arith) }
+returns c = record { late = c.loop-s.invariant.0; none_before = c.loop-s.invariant.1; on = λ l. absurd (omega arith) }
 
 pub to_grid_spec : {M : Type 1} → statement M
 to_grid_spec =

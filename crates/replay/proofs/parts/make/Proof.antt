@@ -29,24 +29,18 @@ is_force : (c : tie.Then-kind-eq2) → let s = start c.before.before in called s
 is_force c = kind_force _ _ _ c.if-kind-eq1.false c.if-kind-eq2.true
 
 is_remove : (c : tie.Then-kind-eq3) → let s = start c.before.before.before in called s ≡ model.remove s.args.a
-is_remove c = let e = c.before in kind_remove _ _ _ e.if-kind-eq1.false e.if-kind-eq2.false c.if-kind-eq3.true
+is_remove c = kind_remove _ _ _ c.if-kind-eq1.false c.if-kind-eq2.false c.if-kind-eq3.true
 
 is_checkpoint : (c : tie.Then-kind-eq4) → called (start c.before.before.before.before) ≡ model.checkpoint
-is_checkpoint c = let e = c.before in let f = e.before in kind_checkpoint _ _ _ f.if-kind-eq1.false f.if-kind-eq2.false e.if-kind-eq3.false c.if-kind-eq4.true
+is_checkpoint c = kind_checkpoint _ _ _ c.if-kind-eq1.false c.if-kind-eq2.false c.if-kind-eq3.false c.if-kind-eq4.true
 
 is_release : (c : tie.Then-kind-ne6) → called (start c.before.before.before.before.before) ≡ model.release
 is_release c =
-    let e = c.before in
-    let f = e.before in
-    let g = f.before in
-    kind_release _ _ _ g.if-kind-eq1.false g.if-kind-eq2.false f.if-kind-eq3.false e.if-kind-eq4.false c.if-kind-ne6.true
+    kind_release _ _ _ c.if-kind-eq1.false c.if-kind-eq2.false c.if-kind-eq3.false c.if-kind-eq4.false c.if-kind-ne6.true
 
 is_rollback : (c : tie.Else-kind-ne6) → let s = start c.before.before.before.before.before in called s ≡ model.rollback s.args.a
 is_rollback c =
-    let e = c.before in
-    let f = e.before in
-    let g = f.before in
-    kind_rollback _ _ _ g.if-kind-eq1.false g.if-kind-eq2.false f.if-kind-eq3.false e.if-kind-eq4.false c.if-kind-ne6.false
+    kind_rollback _ _ _ c.if-kind-eq1.false c.if-kind-eq2.false c.if-kind-eq3.false c.if-kind-eq4.false c.if-kind-ne6.false
 
 -- ---- starts and rows
 
@@ -61,8 +55,7 @@ shape_of-rows-then-kind-eq1 c = omega arith
 
 returns-then-kind-eq1 : tie.Need-returns-then-kind-eq1
 returns-then-kind-eq1 c =
-    let m = c.before.before.before in
-    rw c.told.ensures (turned_did _ (is_place m.before.before.before.before) (λ v ok. stepped_plain _ _ ok (model.place _ _) (λ x cs. refl) (λ x cs. refl) m.place.ensures))
+    rw c.told.ensures (turned_did _ (is_place c.before.before.before.before.before.before.before) (λ v ok. stepped_plain _ _ ok (model.place _ _) (λ x cs. refl) (λ x cs. refl) c.place.ensures))
 
 force-requires : tie.Need-force-requires
 force-requires c κs = let v = c.requires.valid in (omega (arith, v.stored, v.fits_in), v.board, v.free)
@@ -75,8 +68,7 @@ shape_of-rows-then-kind-eq2 c = omega arith
 
 returns-then-kind-eq2 : tie.Need-returns-then-kind-eq2
 returns-then-kind-eq2 c =
-    let m = c.before.before.before in
-    rw c.told-then-kind-eq2.ensures (turned_did _ (is_force m.before.before.before.before) (λ v ok. stepped_plain _ _ ok (model.force _ _) (λ x cs. refl) (λ x cs. refl) m.force.ensures))
+    rw c.told-then-kind-eq2.ensures (turned_did _ (is_force c.before.before.before.before.before.before.before) (λ v ok. stepped_plain _ _ ok (model.force _ _) (λ x cs. refl) (λ x cs. refl) c.force.ensures))
 
 remove-requires : tie.Need-remove-requires
 remove-requires c κs =
@@ -91,8 +83,7 @@ shape_of-rows-then-kind-eq3 c = omega arith
 
 returns-then-kind-eq3 : tie.Need-returns-then-kind-eq3
 returns-then-kind-eq3 c =
-    let m = c.before.before.before in
-    rw c.told-then-kind-eq3.ensures (turned_did _ (is_remove m.before.before.before.before) (λ v ok. stepped_plain _ _ ok (model.remove _) (λ x cs. refl) (λ x cs. refl) (m.remove.ensures.0 _ ok.board, m.remove.ensures.1)))
+    rw c.told-then-kind-eq3.ensures (turned_did _ (is_remove c.before.before.before.before.before.before.before) (λ v ok. stepped_plain _ _ ok (model.remove _) (λ x cs. refl) (λ x cs. refl) (c.remove.ensures.0 _ ok.board, c.remove.ensures.1)))
 
 -- ---- checkpoints
 
@@ -100,7 +91,7 @@ told-requires-then-marks-ge16 : tie.Need-told-requires-then-marks-ge16
 told-requires-then-marks-ge16 c κs = omega arith
 
 returns-then-marks-ge16 : tie.Need-returns-then-marks-ge16
-returns-then-marks-ge16 c = let t = c.before in rw c.told-then-marks-ge16.ensures (turned_did _ (is_checkpoint t.before) (λ v ok. full _ _ ok t.if-marks-ge16.true))
+returns-then-marks-ge16 c = rw c.told-then-marks-ge16.ensures (turned_did _ (is_checkpoint c.before.before) (λ v ok. full _ _ ok c.if-marks-ge16.true))
 
 overflow_add-marks : tie.Need-overflow_add-marks
 overflow_add-marks c = omega arith
@@ -112,13 +103,13 @@ told-requires-then-kind-eq4 : tie.Need-told-requires-then-kind-eq4
 told-requires-then-kind-eq4 c κs = omega arith
 
 returns-then-kind-eq4 : tie.Need-returns-then-kind-eq4
-returns-then-kind-eq4 c = let t = c.before in rw c.told-then-kind-eq4.ensures (turned_checkpoint (is_checkpoint t.before) t.if-marks-ge16.false)
+returns-then-kind-eq4 c = rw c.told-then-kind-eq4.ensures (turned_checkpoint (is_checkpoint c.before.before) c.if-marks-ge16.false)
 
 told-requires-then-marks-eq0 : tie.Need-told-requires-then-marks-eq0
 told-requires-then-marks-eq0 c κs = omega arith
 
 returns-then-marks-eq0 : tie.Need-returns-then-marks-eq0
-returns-then-marks-eq0 c = let t = c.before in rw c.told-then-marks-eq0.ensures (turned_did _ (is_release t.before) (λ v ok. none_open _ _ ok t.if-marks-eq0.true))
+returns-then-marks-eq0 c = rw c.told-then-marks-eq0.ensures (turned_did _ (is_release c.before.before) (λ v ok. none_open _ _ ok c.if-marks-eq0.true))
 
 overflow_sub-marks : tie.Need-overflow_sub-marks
 overflow_sub-marks c = omega arith
@@ -127,7 +118,7 @@ told-requires-then-kind-ne6 : tie.Need-told-requires-then-kind-ne6
 told-requires-then-kind-ne6 c κs = omega arith
 
 returns-then-kind-ne6 : tie.Need-returns-then-kind-ne6
-returns-then-kind-ne6 c = let t = c.before in rw c.told-then-kind-ne6.ensures (turned_release (is_release t.before) t.if-marks-eq0.false)
+returns-then-kind-ne6 c = rw c.told-then-kind-ne6.ensures (turned_release (is_release c.before.before) c.if-marks-eq0.false)
 
 -- ---- rollback
 
@@ -135,27 +126,23 @@ told-requires-then-a-eq0 : tie.Need-told-requires-then-a-eq0
 told-requires-then-a-eq0 c κs = omega arith
 
 returns-then-a-eq0 : tie.Need-returns-then-a-eq0
-returns-then-a-eq0 c = let t = c.before in rw c.told-then-a-eq0.ensures (turned_did _ (is_rollback t.before) (λ v ok. no_mark _ _ ok _ t.if-a-eq0.true))
+returns-then-a-eq0 c = rw c.told-then-a-eq0.ensures (turned_did _ (is_rollback c.before.before) (λ v ok. no_mark _ _ ok _ c.if-a-eq0.true))
 
 told-requires-then-marks-a : tie.Need-told-requires-then-marks-a
 told-requires-then-marks-a c κs = omega arith
 
 returns-then-marks-a : tie.Need-returns-then-marks-a
 returns-then-marks-a c =
-    let t = c.before in
-    let e = t.before in
-    rw c.told-then-marks-a.ensures (turned_did _ (is_rollback e.before) (λ v ok. not_open _ _ ok _ e.if-a-eq0.false t.if-marks-a.true))
+    rw c.told-then-marks-a.ensures (turned_did _ (is_rollback c.before.before.before) (λ v ok. not_open _ _ ok _ c.if-a-eq0.false c.if-marks-a.true))
 
 restore-requires : tie.Need-restore-requires
 restore-requires c κs =
-    let t = c.before.before in
-    let e = t.before in
-    let s = start e.before.before.before.before.before.before in
+    let s = start c.before.before.before.before.before.before.before.before.before in
     let v = s.requires.valid in
-    let there : s.args.a ≤ s.args.marks = omega (arith, t.if-marks-a.false) in (
+    let there : s.args.a ≤ s.args.marks = omega (arith, c.if-marks-a.false) in (
       omega (arith, v.stored, v.fits_in),
       board_far v.board,
-      rw (← ap (λ (p : Kept). p.starts) (s.requires.wanted_is e.if-kind-ne6.false (omega (arith, e.if-a-eq0.false)) there)) (sane_more v.board.numbers.far (wanted_sane _ _ v s.args.a e.if-a-eq0.false there blank)),
+      rw (← ap (λ (p : Kept). p.starts) (s.requires.wanted_is c.if-kind-ne6.false (omega (arith, c.if-a-eq0.false)) there)) (sane_more v.board.numbers.far (wanted_sane _ _ v s.args.a c.if-a-eq0.false there blank)),
     )
 
 told-requires-2 : tie.Need-told-requires-2
@@ -166,10 +153,7 @@ shape_of-rows c = omega arith
 
 returns : tie.Need-returns
 returns c =
-    let m = c.before.before.before.before in
-    let t = m.before.before.before in
-    let e = t.before in
-    rw c.told-2.ensures (turned_rollback e.if-kind-ne6.false (is_rollback e.before) e.if-a-eq0.false (omega (arith, t.if-marks-a.false)) m.restore.ensures)
+    rw c.told-2.ensures (turned_rollback c.if-kind-ne6.false (is_rollback c.before.before.before.before.before.before.before.before.before) c.if-a-eq0.false (omega (arith, c.if-marks-a.false)) c.restore.ensures)
 
 pub make_spec : {M : Type 1} → statement M
 make_spec =

@@ -75,9 +75,8 @@ stage_count-requires c κs = (entry (found_at c.before.before)).requires.accepte
 
 overflow_sub-result : tie.Need-overflow_sub-result
 overflow_sub-result c =
-    let m = c.before.before.before in
-    let w = found_at m in
-    omega (arith, left_within (entry w).requires (come w) _ m.swept.given.1)
+    let w = found_at c.before.before.before in
+    omega (arith, left_within (entry w).requires (come w) _ c.in-Found.is)
 
 enum_known-swept-in-Nothing-1 : tie.Need-enum_known-swept-in-Nothing-1
 enum_known-swept-in-Nothing-1 c = omega arith
@@ -98,9 +97,8 @@ shape_of-rows-in-Found c = omega arith
 
 returns-in-Found : tie.Need-returns-in-Found
 returns-in-Found c =
-    let m = c.before.before.before in
-    let w = found_at m in
-    finds (entry w).requires (come w) _ _ _ m.swept.given.1 c.stage_count.ensures
+    let w = found_at c.before.before.before in
+    finds (entry w).requires (come w) _ _ _ c.in-Found.is c.stage_count.ensures
 
 shape_of-list-in-Nothing : tie.Need-shape_of-list-in-Nothing
 shape_of-list-in-Nothing c = omega arith

@@ -38,9 +38,8 @@ shape_of-rows-in-All : tie.Need-shape_of-rows-in-All invariant-loop-ii decreases
 shape_of-rows-in-All c = ap (λ (l : List ℕ). length l) (rows_kept c.before.before.before)
 
 returns-in-All : tie.Need-returns-in-All invariant-loop-ii decreases-loop-ii
-returns-in-All c = let w = c.before.before.before in
-    let g = finds (entry w).requires w.loop-ii.invariant w.loop-ii-test.true w.choose-f.ensures.0 _ c.in-All.is in
-    (g.0, (rows_kept w, g.1))
+returns-in-All c = let g = finds (entry c.before.before.before).requires c.loop-ii.invariant c.loop-ii-test.true c.choose-f.ensures.0 _ c.in-All.is in
+    (g.0, (rows_kept c.before.before.before, g.1))
 
 enum_told-1 : tie.Need-enum_told-1 invariant-loop-ii decreases-loop-ii
 enum_told-1 c = c.in-Spent-1.keys2
@@ -49,21 +48,19 @@ shape_of-rows-in-Spent : tie.Need-shape_of-rows-in-Spent invariant-loop-ii decre
 shape_of-rows-in-Spent c = ap (λ (l : List ℕ). length l) (rows_kept c.before.before.before)
 
 returns-in-Spent : tie.Need-returns-in-Spent invariant-loop-ii decreases-loop-ii
-returns-in-Spent c = let w = c.before.before.before in
-    (stops (entry w).requires w.loop-ii.invariant w.loop-ii-test.true w.choose-f.ensures.0 c.in-Spent.is, (rows_kept w, tt))
+returns-in-Spent c = (stops (entry c.before.before.before).requires c.loop-ii.invariant c.loop-ii-test.true c.choose-f.ensures.0 c.in-Spent.is, (rows_kept c.before.before.before, tt))
 
 enum_known-f-in-Nothing-1 : tie.Need-enum_known-f-in-Nothing-1 invariant-loop-ii decreases-loop-ii
 enum_known-f-in-Nothing-1 c = c.in-Nothing-1.keys3
 
 overflow_add-ii : tie.Need-overflow_add-ii invariant-loop-ii decreases-loop-ii
-overflow_add-ii c = let w = c.before.before.before in omega (arith, w.loop-ii-test.true, (entry w).requires.capped)
+overflow_add-ii c = omega (arith, c.loop-ii-test.true, (entry c.before.before.before).requires.capped)
 
 loop-ii-smaller : tie.Need-loop-ii-smaller invariant-loop-ii decreases-loop-ii
-loop-ii-smaller c = let w = c.before.before.before in omega (arith, w.loop-ii-test.true)
+loop-ii-smaller c = omega (arith, c.loop-ii-test.true)
 
 loop-ii-preserved : tie.Need-loop-ii-preserved invariant-loop-ii decreases-loop-ii
-loop-ii-preserved c = let w = c.before.before.before in
-    goes_on (entry w).requires w.loop-ii.invariant w.loop-ii-test.true w.choose-f.ensures.0 _ w.choose-f.ensures.1 c.in-Nothing.is
+loop-ii-preserved c = goes_on (entry c.before.before.before).requires c.loop-ii.invariant c.loop-ii-test.true c.choose-f.ensures.0 _ c.choose-f.ensures.1 c.in-Nothing.is
 
 shape_of-rows : tie.Need-shape_of-rows invariant-loop-ii decreases-loop-ii
 shape_of-rows c = ap (λ (l : List ℕ). length l) c.loop-ii.invariant.rows_same

@@ -36,9 +36,7 @@ unread-requires c κs = omega arith
 returns-in_default : tie.Need-returns-in_default
 unfolding open_checks
 returns-in_default c =
-    let r = c.before.before in
-    let s = r.before.before in
-    ap refusal_of c.unread.ensures ∙ unread_first s.args.file.now (byInterval s) r.read-reading.ensures c.in_default.is
+    ap refusal_of c.unread.ensures ∙ unread_first c.args.file.now (byInterval c.before.before.before.before) c.read-reading.ensures c.in_default.is
 
 -- ---- once the file is accepted
 
@@ -62,18 +60,16 @@ enum_told-in_default-by_interval c = omega arith
 
 returns-in_default-by_interval : tie.Need-returns-in_default-by_interval
 returns-in_default-by_interval c =
-    let r = c.before in
-    let s = start r.before in
-    refused_first (range 1 4096 s.args.interval ∷ []) (byHorizon s) r.range-by_interval.ensures c.in_default-by_interval.is ∙ sym (accepted_decides r.before)
+    let s = start c.before.before in
+    refused_first (range 1 4096 s.args.interval ∷ []) (byHorizon s) c.range-by_interval.ensures c.in_default-by_interval.is ∙ sym (accepted_decides c.before.before)
 
 -- ---- once the interval passes
 
 interval_decides : (c : tie.In-Fine) → let s = start c.before.before in
     first_refusal (open_checks s.args.file.now s.args.interval s.args.horizon s.args.rows) ≡ first_refusal (byHorizon s)
 interval_decides c =
-    let r = c.before in
-    let s = start r.before in
-    accepted_decides r.before ∙ rest_decides (range 1 4096 s.args.interval ∷ []) (byHorizon s) r.range-by_interval.ensures c.in-Fine.is
+    let s = start c.before.before in
+    accepted_decides c.before.before ∙ rest_decides (range 1 4096 s.args.interval ∷ []) (byHorizon s) c.range-by_interval.ensures c.in-Fine.is
 
 range-by_horizon-requires : tie.Need-range-by_horizon-requires
 range-by_horizon-requires c κs = omega arith
@@ -86,19 +82,16 @@ enum_told-in_default-by_horizon c = omega arith
 
 returns-in_default-by_horizon : tie.Need-returns-in_default-by_horizon
 returns-in_default-by_horizon c =
-    let r = c.before in
-    let a = (start r.before.before.before).args in
-    refused_first (range 2 4096 a.horizon ∷ []) (lent a.interval a.rows ∷ []) r.range-by_horizon.ensures c.in_default-by_horizon.is ∙ sym (interval_decides r.before)
+    let a = (start c.before.before.before.before).args in
+    refused_first (range 2 4096 a.horizon ∷ []) (lent a.interval a.rows ∷ []) c.range-by_horizon.ensures c.in_default-by_horizon.is ∙ sym (interval_decides c.before.before)
 
 lent-requires : tie.Need-lent-requires
 lent-requires c κs = omega arith
 
 returns : tie.Need-returns
 returns c =
-    let t = c.before in
-    let r = t.before in
-    let a = (start r.before.before.before).args in
-    c.lent.ensures ∙ sym (interval_decides r.before ∙ rest_decides (range 2 4096 a.horizon ∷ []) (lent a.interval a.rows ∷ []) r.range-by_horizon.ensures t.in-Fine-by_horizon.is)
+    let a = (start c.before.before.before.before.before).args in
+    c.lent.ensures ∙ sym (interval_decides c.before.before.before ∙ rest_decides (range 2 4096 a.horizon ∷ []) (lent a.interval a.rows ∷ []) c.range-by_horizon.ensures c.in-Fine-by_horizon.is)
 
 pub openable_spec : {M : Type 1} → statement M
 openable_spec =

@@ -34,17 +34,16 @@ loop-i-smaller c = omega arith
 
 loop-i-preserved : tie.Need-loop-i-preserved invariant-loop-i decreases-loop-i
 loop-i-preserved c =
-    let g = c.before.before.before in
-    let f = g.args.file.now in
-    let old = g.args.store.now in
-    let j = g.loop-i.i in
+    let f = c.args.file.now in
+    let old = c.args.store.now in
+    let j = c.loop-i.i in
     let a = get_or f j 0 in
     let l : j < length f = omega arith in (
       omega arith,
-      ap (λ (s : List ℕ). set s j a) g.loop-i.invariant.1
+      ap (λ (s : List ℕ). set s j a) c.loop-i.invariant.1
           ∙ set_next (take j f) old j a (length-take-le j f (omega arith)) (omega arith)
           ∙ ap (λ (s : List ℕ). s ++ drop (j + 1) old) (sym (take-suc f j 0 l) ∙ ap (λ (k : ℕ). take k f) (sym (add-one j))),
-      length-set g.loop-i.store j a ∙ g.loop-i.invariant.2,
+      length-set c.loop-i.store j a ∙ c.loop-i.invariant.2,
     )
 
 returns : tie.Need-returns invariant-loop-i decreases-loop-i

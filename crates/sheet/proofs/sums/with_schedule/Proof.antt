@@ -16,8 +16,7 @@ at_bound-requires c κs = search rules
 
 overflow_add-result-2 : tie.Need-overflow_add-result-2
 overflow_add-result-2 c =
-    let s = c.before.before.before.before.before.before.before in
-    omega (arith, s.requires.1.bound, c.at_bound.ensures, bound_few s.args.s)
+    omega (arith, c.requires.1.bound, c.at_bound.ensures, bound_few c.args.s)
 
 overflow_add-result-3 : tie.Need-overflow_add-result-3
 overflow_add-result-3 c = search rules
