@@ -86,9 +86,9 @@ pub ran : {u : Setup} {st : State} {rest : List ℕ} {cs : List Call} {rs : List
     → Stands u st rest s rows → Run s rows cs rs s' rows' → (rs ≡ replies u cs st) × Stands u (after u cs st) rest s' rows'
 unfolding after replies
 ran a stop = (refl, a)
-ran a (next t r) =
+ran {u = u} {st = st} a (next {c = c} t r) =
     let b = step_stands a t in
-    let d = ran b.1 r in
+    let d = ran {st = (step u c st).0} b.1 r in
     (ap₂ (λ (x : Answer model.Reply) (xs : List (Answer model.Reply)). x ∷ xs) b.0 d.0, d.1)
 
 -- no call changes how many rows there are
