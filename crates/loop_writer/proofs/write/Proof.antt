@@ -104,13 +104,13 @@ module _ (c : tie.After-head) where
   abbrev s : tie.Start
   s = start (checked fine)
 
-  headed : Stored s.args.buffer.now 0 (head_bytes (length s.args.ops.now) (length s.args.uses.now) (length s.args.deps.now)) c.head.new.0
+  headed : Stored s.args.buffer.now 0 (head_bytes (length s.args.ops.now) (length s.args.uses.now) (length s.args.deps.now)) c.head.new.buffer
   headed = is_stored (omega (arith, room fine)) c.head.ensures
 
 body-requires : tie.Need-body-requires
 body-requires c κs =
     let h = c.before.before.before in
-    (omega (arith, room (fine h.before.before), (headed h).long), (passes_bytes (lists (s h.before.before.before.before.before.before.before)) (right (checked (fine h.before.before)))).0)
+    (omega (arith, room (fine h), (headed h).long), (passes_bytes (lists (s h)) (right (checked (fine h)))).0)
 
 -- after the body of the operations
 module _ (c : tie.After-body) where
@@ -120,37 +120,37 @@ module _ (c : tie.After-body) where
   abbrev d : Fields
   d = lists (s h)
 
-  first : Stored (s h).args.buffer.now 0 (head_bytes (length d.ops) (length d.uses) (length d.deps) ++ map byte_of d.ops) c.body.new.0
+  first : Stored (s h).args.buffer.now 0 (head_bytes (length d.ops) (length d.uses) (length d.deps) ++ map byte_of d.ops) c.body.new.buffer
   first = next_stored 26 (map byte_of d.ops) (headed h) (omega arith) (omega (arith, room (fine h), length-map d.ops byte_of)) c.body.ensures
 
 overflow_add-ops : tie.Need-overflow_add-ops
-overflow_add-ops c = omega (arith, short (checked (fine (h c.before.before.before.before.before.before.before))))
+overflow_add-ops c = omega (arith, short (checked (fine (h c.before.before.before))))
 
 body-requires-2 : tie.Need-body-requires-2
 body-requires-2 c κs =
     let b = c.before.before.before in
-    (omega (arith, room (fine (h b.before.before.before.before)), (first b).long), (passes_bytes (d b) (right (checked (fine (h b.before.before.before.before))))).1)
+    (omega (arith, room (fine (h b)), (first b).long), (passes_bytes (d b) (right (checked (fine (h b))))).1)
 
 -- after that of the uses
 module _ (c : tie.After-body-2) where
   abbrev b : tie.After-body
   b = c.before.before.before.before
 
-  second : Stored (s (h b)).args.buffer.now 0 (head_bytes (length (d b).ops) (length (d b).uses) (length (d b).deps) ++ map byte_of (d b).ops ++ map byte_of (d b).uses) c.body-2.new.0
+  second : Stored (s (h b)).args.buffer.now 0 (head_bytes (length (d b).ops) (length (d b).uses) (length (d b).deps) ++ map byte_of (d b).ops ++ map byte_of (d b).uses) c.body-2.new.buffer
   second =
       next_stored (26 + length (d b).ops) (map byte_of (d b).uses) (first b) (omega (arith, length-map (d b).ops byte_of))
       (omega (arith, room (fine (h b)), length-map (d b).ops byte_of, length-map (d b).uses byte_of)) c.body-2.ensures
 
 overflow_add-ops-2 : tie.Need-overflow_add-ops-2
-overflow_add-ops-2 c = omega (arith, short (checked (fine (h (b c.before.before.before.before.before.before.before)))))
+overflow_add-ops-2 c = omega (arith, short (checked (fine (h (b c.before.before.before)))))
 
 overflow_add-ops-3 : tie.Need-overflow_add-ops-3
-overflow_add-ops-3 c = omega (arith, short (checked (fine (h (b c.before.before.before.before.before.before.before)))))
+overflow_add-ops-3 c = omega (arith, short (checked (fine (h (b c.before.before.before)))))
 
 body-requires-3 : tie.Need-body-requires-3
 body-requires-3 c κs =
     let u = c.before.before.before in
-    (omega (arith, room (fine (h (b u.before.before.before.before))), (second u).long), (passes_bytes (d (b u.before.before.before.before)) (right (checked (fine (h (b u.before.before.before.before)))))).2)
+    (omega (arith, room (fine (h (b u))), (second u).long), (passes_bytes (d (b u)) (right (checked (fine (h (b u)))))).2)
 
 -- and after that of the dependences: the whole file
 module _ (c : tie.After-body-3) where
@@ -161,7 +161,7 @@ module _ (c : tie.After-body-3) where
   apart : length (map byte_of (d (b u)).ops ++ map byte_of (d (b u)).uses) ≡ length (d (b u)).ops + length (d (b u)).uses
   apart = rw (length-append, length-map (d (b u)).ops byte_of, length-map (d (b u)).uses byte_of)
 
-  third : Stored (s (h (b u))).args.buffer.now 0 (bytes_of (d (b u))) c.body-3.new.0
+  third : Stored (s (h (b u))).args.buffer.now 0 (bytes_of (d (b u))) c.body-3.new.buffer
   third =
       next_stored (26 + length (d (b u)).ops + length (d (b u)).uses) (map byte_of (d (b u)).deps) (second u) (omega (arith, apart)) (omega (arith, apart, room (fine (h (b u))), length-map (d (b u)).deps byte_of))
       c.body-3.ensures
@@ -172,7 +172,7 @@ shape_of-buffer c = (third c.before.before).long
 returns : tie.Need-returns
 returns c =
     let e = c.before.before in
-    let t = fine (h (b (u e.before.before.before.before))) in
+    let t = fine (h (b (u e))) in
     writes (lists (start (checked t))) (start (checked t)).args.buffer.now (right (checked t)) (room t) (third e)
 
 pub write_spec : {M : Type 1} → statement M

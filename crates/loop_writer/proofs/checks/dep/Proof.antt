@@ -93,7 +93,7 @@ unfolding dep_checks first_refusal
 returns-then-outside-3 c =
     let d = c.before in
     let t = second d in
-    rw (source_said (first t) ∙ t.if-outside.left, target_said t ∙ d.if-outside-2.false, delay_said d ∙ c.if-outside-3.true)
+    rw (source_said (first t) ∙ t.if-outside.false, target_said t ∙ d.if-outside-2.false, delay_said d ∙ c.if-outside-3.true)
 
 overflow_add-at-3 : tie.Need-overflow_add-at-3
 overflow_add-at-3 c = omega arith
@@ -107,7 +107,7 @@ returns-then-outside-4 c =
     let r = c.before in
     let d = third r in
     let t = second d in
-    rw (source_said (first t) ∙ t.if-outside.left, target_said t ∙ d.if-outside-2.left, delay_said d ∙ r.if-outside-3.false, distance_said r ∙ c.if-outside-4.true)
+    rw (source_said (first t) ∙ t.if-outside.false, target_said t ∙ d.if-outside-2.false, delay_said d ∙ r.if-outside-3.false, distance_said r ∙ c.if-outside-4.true)
 
 returns : tie.Need-returns
 unfolding dep_checks first_refusal
@@ -115,7 +115,7 @@ returns c =
     let r = c.before in
     let d = third r in
     let t = second d in
-    rw (source_said (first t) ∙ t.if-outside.left, target_said t ∙ d.if-outside-2.left, delay_said d ∙ r.if-outside-3.false, distance_said r ∙ c.if-outside-4.false)
+    rw (source_said (first t) ∙ t.if-outside.false, target_said t ∙ d.if-outside-2.false, delay_said d ∙ r.if-outside-3.false, distance_said r ∙ c.if-outside-4.false)
 
 pub dep_spec : {M : Type 1} → statement M
 dep_spec =

@@ -27,12 +27,12 @@ module _ (c : tie.After-z-1) where
   fits = record { sfits = c.z-1.given }
 
 returns-then-z-low : tie.Need-returns-then-z-low
-returns-then-z-low c = let a = c.before in rw (lt_plain w32 (z a) (s a.before).args.low (fits a) (s a.before).ranges.low c.if-z-low.true)
+returns-then-z-low c = let a = c.before in rw (lt_plain w32 (z a) c.args.low (fits a) c.ranges.low c.if-z-low.true)
 
 returns : tie.Need-returns
 returns c =
     let a = c.before in
-    rw (lt_plain w32 (z a) (s a.before).args.low (fits a) (s a.before).ranges.low c.if-z-low.false) (sym (lt_plain w32 (s a.before).args.high (z a) (s a.before).ranges.high (fits a) refl))
+    rw (lt_plain w32 (z a) c.args.low (fits a) c.ranges.low c.if-z-low.false) (sym (lt_plain w32 c.args.high (z a) c.ranges.high (fits a) refl))
 
 pub outside_spec : {M : Type 1} → statement M
 outside_spec = tie.close (tie.spec offset_bounds-list-i bounds-list-i returns-then-z-low returns)

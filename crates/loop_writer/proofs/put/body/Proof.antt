@@ -40,7 +40,7 @@ module _ (c : tie.At-loop-i invariant-loop-i decreases-loop-i) where
 
   -- number i, as the machine reads it
   read : to_z w32 (of_z w32 (field_at a.args.fields.now c.loop-i.i)) ≡ field_at a.args.fields.now c.loop-i.i
-  read = plain (field_at a.args.fields.now c.loop-i.i) (a.pre.1 c.loop-i.i)
+  read = plain (field_at a.args.fields.now c.loop-i.i) (a.requires.1 c.loop-i.i)
 
 offset_bounds-fields-i : tie.Need-offset_bounds-fields-i invariant-loop-i decreases-loop-i
 offset_bounds-fields-i c = omega arith
@@ -49,7 +49,7 @@ bounds-fields-i : tie.Need-bounds-fields-i invariant-loop-i decreases-loop-i
 bounds-fields-i c = omega arith
 
 byte_of-requires : tie.Need-byte_of-requires invariant-loop-i decreases-loop-i
-byte_of-requires c κs = let l = c.before.before in rw (read l) ((a l.before.before).requires.1 l.loop-i.i)
+byte_of-requires c κs = let l = c.before.before in rw (read l) ((a l).requires.1 l.loop-i.i)
 
 overflow_add-buffer : tie.Need-overflow_add-buffer invariant-loop-i decreases-loop-i
 overflow_add-buffer c = omega arith
@@ -66,8 +66,8 @@ loop-i-smaller c = omega arith
 loop-i-preserved : tie.Need-loop-i-preserved invariant-loop-i decreases-loop-i
 loop-i-preserved c =
     let l = c.before.before.before in
-    let e : c.byte_of.result ≡ get_or (bytes l) l.loop-i.i 0 = c.byte_of.ensures ∙ ap byte_of (read l) ∙ sym (get_or-map byte_of (a l.before.before).args.fields.now l.loop-i.i (pos 0)) in
-    (omega arith, rw (l.loop-i.invariant.1, e, add-one) (paste-suc (a l.before.before).args.buffer.now (a l.before.before).args.at (bytes l) l.loop-i.i 0 (omega arith) (omega (arith, as_many l))))
+    let e : c.byte_of.result ≡ get_or (bytes l) l.loop-i.i 0 = c.byte_of.ensures ∙ ap byte_of (read l) ∙ sym (get_or-map byte_of (a l).args.fields.now l.loop-i.i (pos 0)) in
+    (omega arith, rw (l.loop-i.invariant.1, e, add-one) (paste-suc (a l).args.buffer.now (a l).args.at (bytes l) l.loop-i.i 0 (omega arith) (omega (arith, as_many l))))
 
 shape_of-buffer : tie.Need-shape_of-buffer invariant-loop-i decreases-loop-i
 shape_of-buffer c = as_long c.before

@@ -24,16 +24,16 @@ module _ (c : tie.After-word) where
   abbrev a : tie.Start
   a = c.before.before.before.before.before.before.before.before
 
-  six : Stored a.args.buffer.now a.args.at (four_of a.args.tag.now ++ word a.args.start) c.word.new.0
+  six : Stored a.args.buffer.now a.args.at (four_of a.args.tag.now ++ word a.args.start) c.word.new.buffer
   six =
       next_stored (a.args.at + 4) (word a.args.start) (four a.args.buffer.now a.args.tag.now a.args.at (omega arith)) (omega arith) (omega arith) c.word.ensures
 
 -- and the second
 module _ (c : tie.After-word-2) where
   abbrev b : tie.Start
-  b = a c.before.before.before.before.before.before.before.before.before.before.before.before
+  b = a c.before.before.before.before
 
-  eight : Stored b.args.buffer.now b.args.at (entry_bytes (four_of b.args.tag.now) b.args.start b.args.long) c.word-2.new.0
+  eight : Stored b.args.buffer.now b.args.at (entry_bytes (four_of b.args.tag.now) b.args.start b.args.long) c.word-2.new.buffer
   eight = next_stored (b.args.at + 6) (word b.args.long) (six c.before.before.before.before) (omega arith) (omega arith) c.word-2.ensures
 
 bounds-tag-0 : tie.Need-bounds-tag-0

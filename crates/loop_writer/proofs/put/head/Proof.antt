@@ -14,7 +14,7 @@ module _ (c : tie.After-entry) where
   abbrev a : tie.Start
   a = c.before.before.before.before
 
-  one : Stored a.args.buffer.now 0 (1 ∷ 3 ∷ entry_bytes oper.tag oper_at a.args.oper) c.entry.new.0
+  one : Stored a.args.buffer.now 0 (1 ∷ 3 ∷ entry_bytes oper.tag oper_at a.args.oper) c.entry.new.buffer
   one = next_stored 2 (entry_bytes oper.tag oper_at a.args.oper) (run_stored (1 ∷ 3 ∷ []) a.args.buffer.now 0 (omega arith)) (omega arith) (omega arith) c.entry.ensures
 
 -- and the second
@@ -22,7 +22,7 @@ module _ (c : tie.After-entry-2) where
   abbrev b : tie.After-entry
   b = c.before.before.before.before.before
 
-  two : Stored (a b).args.buffer.now 0 (1 ∷ 3 ∷ entry_bytes oper.tag oper_at (a b).args.oper ++ entry_bytes uses.tag (oper_at + (a b).args.oper) (a b).args.uses) c.entry-2.new.0
+  two : Stored (a b).args.buffer.now 0 (1 ∷ 3 ∷ entry_bytes oper.tag oper_at (a b).args.oper ++ entry_bytes uses.tag (oper_at + (a b).args.oper) (a b).args.uses) c.entry-2.new.buffer
   two = next_stored 10 (entry_bytes uses.tag (oper_at + (a b).args.oper) (a b).args.uses) (one b) (omega arith) (omega arith) c.entry-2.ensures
 
 -- and the third
@@ -33,7 +33,7 @@ module _ (c : tie.After-entry-3) where
   abbrev s : tie.Start
   s = a (b d)
 
-  three : Stored s.args.buffer.now 0 (head_bytes s.args.oper s.args.uses s.args.deps) c.entry-3.new.0
+  three : Stored s.args.buffer.now 0 (head_bytes s.args.oper s.args.uses s.args.deps) c.entry-3.new.buffer
   three = next_stored 18 (entry_bytes deps.tag (oper_at + s.args.oper + s.args.uses) s.args.deps) (two d) (omega arith) (omega arith) c.entry-3.ensures
 
 bounds-buffer-0 : tie.Need-bounds-buffer-0
