@@ -93,11 +93,11 @@ wanted_there : (c : tie.Joined-kind-eq6 invariant-loop-i decreases-loop-i) → k
 wanted_there c six low high =
     ⊎_elim
     (λ w.
-    let e = w.1.ensures in
+    let e = w.place_of.ensures in
     let saved = (turn c).loop-i.t.saved in
     ap (λ (k : ℕ). get_or saved k blank) (sym (e.1 low high))
-    ∙ get_or_within saved w.1.result blank (record { starts = []; free = [] }) (omega (arith, e.0, (turn c).loop-i.invariant.1.saved_all)) ∙ sym w.3)
-    (λ w. absurd (w.0.left six))
+    ∙ get_or_within saved w.place_of.result blank (record { starts = []; free = [] }) (omega (arith, e.0, (turn c).loop-i.invariant.1.saved_all)) ∙ sym w.wanted-is)
+    (λ w. absurd (w.if-kind-eq6.false six))
     c.if-kind-eq6.branch-raw
 
 make-turn-requires : tie.Need-make-turn-requires invariant-loop-i decreases-loop-i
@@ -114,7 +114,7 @@ bounds-t-marks c =
     omega (arith, c.if-marks-turn.true, (c.make-turn.ensures.steps l.loop-i.t.saved l.loop-i.invariant.1 (wanted_there c.before.before.before.before.before.before.before.before.before.before.before.before.before.before)).valid.few)
 
 overflow_mul-i : tie.Need-overflow_mul-i invariant-loop-i decreases-loop-i
-overflow_mul-i c = omega (arith, offset_bounds-calls-i c.before.before.before.before.before.before.before.before.before.before.before.before.before.before.before.before.before.before.before)
+overflow_mul-i c = omega (arith, offset_bounds-calls-i c.before.before.before.before.before.before.before.before.before.before.before.before.before.before.before.before.before)
 
 write_reply-requires : tie.Need-write_reply-requires invariant-loop-i decreases-loop-i
 write_reply-requires c κs =
@@ -122,7 +122,7 @@ write_reply-requires c κs =
 
 overflow_add-i : tie.Need-overflow_add-i invariant-loop-i decreases-loop-i
 overflow_add-i c =
-    omega (arith, c.loop-i-test.true, (entry c.before.before.before.before.before.before.before.before.before.before.before.before.before.before.before.before.before.before.before.before.before).fits.n)
+    omega (arith, c.loop-i-test.true, c.ranges.n)
 
 loop-i-smaller : tie.Need-loop-i-smaller invariant-loop-i decreases-loop-i
 loop-i-smaller c = omega arith
@@ -134,10 +134,10 @@ loop-i-preserved c =
     let grown = turned_grown c.make-turn.ensures c.loop-i.t.saved m.1 (wanted_there c.before.before.before.before.before.before.before.before.before.before.before.before.before.before.before.before) in
     let kept = turned_kept c.make-turn.ensures c.loop-i.t.saved m.1 (wanted_there c.before.before.before.before.before.before.before.before.before.before.before.before.before.before.before.before) in (
       omega (arith, c.loop-i-test.true),
-      ⊎_elim (λ x. rw x.3 (grown x.0.taken).valid) (λ x. rw x.1 (kept x.0.left).valid) c.if-marks-turn.branch-raw,
+      ⊎_elim (λ x. rw x.t-is (grown x.if-marks-turn.true).valid) (λ x. rw x.t-is (kept x.if-marks-turn.false).valid) c.if-marks-turn.branch-raw,
       ⊎_elim
-          (λ x. rw x.3 (made_next s.args.calls.now c.loop-i.i m.2 (grown x.0.taken) c.write_reply.ensures))
-          (λ x. rw x.1 (made_next s.args.calls.now c.loop-i.i m.2 (kept x.0.left) c.write_reply.ensures))
+          (λ x. rw x.t-is (made_next s.args.calls.now c.loop-i.i m.2 (grown x.if-marks-turn.true) c.write_reply.ensures))
+          (λ x. rw x.t-is (made_next s.args.calls.now c.loop-i.i m.2 (kept x.if-marks-turn.false) c.write_reply.ensures))
           c.if-marks-turn.branch-raw,
       stepped_length m.1 (c.make-turn.ensures.steps c.loop-i.t.saved m.1 (wanted_there c.before.before.before.before.before.before.before.before.before.before.before.before.before.before.before.before)) ∙ m.3,
       ap length c.write_reply.ensures ∙ length_written _ _ _ ∙ m.4,
