@@ -2,7 +2,7 @@
 use mathlib.Core.Path.{sym}
 use native.Mathlib.Omega.{arith}
 use borrow.Author.Rules.{rules}
-use Rattle.model.proofs.Bundle.{entry_at, part_is, no_part}
+use Rattle.model.proofs.Bundle.{entry_at_lem, part_is, no_part}
 use Rattle.bundle.proofs.file.Statement.{statement}
 use Rattle.bundle.proofs.file.Tie as tie
 
@@ -32,7 +32,7 @@ overflow_add-at c = search rules
 word-begin-requires : tie.Need-word-begin-requires
 word-begin-requires c κs =
     let a = c.args in
-    omega (arith, entry_at a.bundle.now a.i (omega arith))
+    omega (arith, entry_at_lem a.bundle.now a.i (omega arith))
 
 overflow_add-at-2 : tie.Need-overflow_add-at-2
 overflow_add-at-2 c = search rules
@@ -40,7 +40,7 @@ overflow_add-at-2 c = search rules
 word-requires : tie.Need-word-requires
 word-requires c κs =
     let a = c.args in
-    omega (arith, entry_at a.bundle.now a.i (omega arith))
+    omega (arith, entry_at_lem a.bundle.now a.i (omega arith))
 
 overflow_add-end : tie.Need-overflow_add-end
 overflow_add-end c = search rules
@@ -54,7 +54,7 @@ slice_bounds-result-start-2 c = search rules
 slice_bounds-result-end-2 : tie.Need-slice_bounds-result-end-2
 slice_bounds-result-end-2 c =
     let a = c.args in
-    omega (arith, entry_at a.bundle.now a.i (omega arith))
+    omega (arith, entry_at_lem a.bundle.now a.i (omega arith))
 
 returns : tie.Need-returns
 returns c =

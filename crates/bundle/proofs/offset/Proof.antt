@@ -6,7 +6,7 @@ use borrow.Author.Rules.{rules}
 use borrow.Author.Tests.{lt-ltb, le-ltb}
 use lib.ListN.{length}
 use Rattle.model.specs.Bundle.{files}
-use Rattle.model.proofs.Bundle.{entry_at}
+use Rattle.model.proofs.Bundle.{entry_at_lem}
 use Rattle.bundle.proofs.offset.Statement.{statement}
 use Rattle.bundle.proofs.offset.Tie as tie
 
@@ -22,13 +22,13 @@ overflow_add-i c = omega arith
 word-requires : tie.Need-word-requires
 word-requires c κs =
     let a = c.args in
-    omega (arith, entry_at a.bundle.now a.i (omega arith))
+    omega (arith, entry_at_lem a.bundle.now a.i (omega arith))
 
 returns-then-i-count : tie.Need-returns-then-i-count
 returns-then-i-count c =
     let a = c.args in
     let h : a.i < length (files a.bundle.now) = omega arith in
-    rw (lt-ltb _ _ h) (c.word.ensures.0 ∙ (entry_at a.bundle.now a.i h).placed)
+    rw (lt-ltb _ _ h) (c.word.ensures.0 ∙ (entry_at_lem a.bundle.now a.i h).placed)
 
 returns-else-i-count : tie.Need-returns-else-i-count
 returns-else-i-count c =
