@@ -9,7 +9,7 @@ ghost use Rattle.bundle.specs.Answer.{bundled_of};
 use loop_access::bytes::{wide, word};
 
 // The number of a bundle's files, or a refusal with its number and detail.
-#[derive(Drop)]
+#[derive(Clone, Copy)]
 pub enum Bundled {
     Files(usize),
     Refused(usize, usize),
@@ -102,14 +102,14 @@ fn after(bundle: &[u8], i: usize) -> usize
 }
 
 // A reader: the bundle, and the number of the next file.
-#[derive(Drop)]
+#[derive(Clone, Copy)]
 pub struct BundleReader<'a> {
     pub bundle: &'a [u8],
     pub next: usize,
 }
 
 // A file that was taken, and the reader for the one after it.
-#[derive(Drop)]
+#[derive(Clone, Copy)]
 pub struct Taken<'a> {
     pub file: &'a [u8],
     pub rest: BundleReader<'a>,

@@ -86,16 +86,18 @@ pub record LinesUpto (b lines rows : List ℕ) (i : ℕ) (s : Sums) (lines' rows
 
 module _ (b lines rows : List ℕ) where
   pub lines_none : (s : Sums) → s ≡ sums_of [] → LinesUpto b lines rows 0 s lines rows
-  unfolding line_words written flat_map
+  unfolding line_words written flat_map upto_none
   lines_none s e = record { upto = upto_none b rows s e; lines_are = refl }
 
   module _ {i : ℕ} {s : Sums} {lines' rows' : List ℕ} (u : LinesUpto b lines rows i s lines' rows') where
     pub lines_next : 4096 ≤ length rows → i < length (files b) → {f : List ℕ} → f ≡ file_at b i → {t : Sums} {lines'' rows'' : List ℕ} → AddsLine s i f lines' rows' t lines'' rows''
         → LinesUpto b lines rows (i + 1) t lines'' rows''
+    unfolding upto_next
     lines_next wide less {f} e {t} {lines''} w = record {
       upto = upto_next b rows u.upto wide less e (record { answer = w.answer; is = w.is; says = refl; sums_are = w.sums_are; rows_are = w.rows_are });
       lines_are = lines_more u.upto.items (f, w.answer) i lines lines' lines'' (done b rows u.upto) u.lines_are w.lines_are;
     }
 
     pub lines_all : length (files b) ≤ i → Walked b lines rows s lines' rows'
+    unfolding upto_all
     lines_all over = record { summed = upto_all b rows u.upto over; lines_are = u.lines_are }
