@@ -1,5 +1,5 @@
 -- `descent::pick` and `descent::try_start`, which call each other, meet their contracts, by the turns of the search in `Steps`. Assumes nothing.
-use Rattle.std.proofs.Common.{ℕ, ◌≡◌, ◌+◌, ◌-◌, ◌∙◌, refl, arith}
+use Rattle.std.proofs.Common.{ℕ, ◌∙◌, refl, arith}
 use Rattle.std.proofs.Math.Nat.{add-zero}
 use Rattle.descent.proofs.Steps.{AfterProbe, leaf, enters, moves, arrives, breaks, may_try, turned, leaves, breaks_above, leaves_empty, breaks_empty, next_use, next_few, unfit, can_reserve, deeper, can_release, given_back, back}
 use Rattle.descent.proofs.+pick_try_start.Goals.{pick-After-try_start-f}
