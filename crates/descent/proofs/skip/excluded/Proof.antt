@@ -67,7 +67,7 @@ returns-then-k-gt0 : tie.Need-returns-then-k-gt0 invariant-loop-j decreases-loop
 returns-then-k-gt0 c = let i = c.before.before in use_excludes _ _ _ (uses i.before) i.loop-j.j _ (inside i) c.if-k-gt0.true (told c.before)
 
 overflow_add-j : tie.Need-overflow_add-j invariant-loop-j decreases-loop-j
-overflow_add-j c = omega (arith, inside c.before.before, (start c.before.before.before).fits.op)
+overflow_add-j c = omega (arith, inside c.before.before, (start c.before.before.before).ranges.op)
 
 loop-j-smaller : tie.Need-loop-j-smaller invariant-loop-j decreases-loop-j
 loop-j-smaller c = omega (arith, c.loop-j-test.true)
