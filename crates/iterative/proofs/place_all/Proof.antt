@@ -25,7 +25,7 @@ attempt_all-requires c κs =
 
 -- after the attempts at an interval
 left_by : (c : tie.After-attempt_all invariant-loop-ii decreases-loop-ii) → let s = c.args in
-    Untouched s.starts.now s.rows.now c.attempt_all.new.1.1.1.1.1.0 c.attempt_all.new.1.1.1.1.1.1.0
+    Untouched s.starts.now s.rows.now c.attempt_all.new.starts c.attempt_all.new.rows
 left_by c = untouched_again c.loop-ii.invariant.1 c.attempt_all.ensures.untouched
 
 shape_of-rows-then-attempt_all : tie.Need-shape_of-rows-then-attempt_all invariant-loop-ii decreases-loop-ii

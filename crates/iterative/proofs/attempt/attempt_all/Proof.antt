@@ -31,7 +31,7 @@ attempt-requires c κs = ready_again (entry c.before.before.before.before.before
 
 -- after an attempt
 left_by : (c : tie.After-attempt invariant-loop-order decreases-loop-order) → let s = (entry c.before.before.before.before.before.before).args in
-    Untouched s.starts.now s.rows.now c.attempt.new.1.1.1.1.1.1.1.0 c.attempt.new.1.1.1.1.1.1.1.1.0
+    Untouched s.starts.now s.rows.now c.attempt.new.starts c.attempt.new.rows
 left_by c = untouched_again c.loop-order.invariant.1 c.attempt.ensures.untouched
 
 shape_of-rows-then-attempt : tie.Need-shape_of-rows-then-attempt invariant-loop-order decreases-loop-order

@@ -58,7 +58,7 @@ step-requires c κs =
 
 -- the turn's beginning, from after the step
 abbrev turn : tie.After-step invariant-loop-ranks decreases-loop-ranks → tie.At-loop-ranks invariant-loop-ranks decreases-loop-ranks
-turn c = c.before.before.before.before.before.before.before.before.before
+turn c = c.before.before.before.before.before.before.before.before
 
 shape_of-rows-then-not-step : tie.Need-shape_of-rows-then-not-step invariant-loop-ranks decreases-loop-ranks
 shape_of-rows-then-not-step c = kept_length (entry (turn c.before.before.before)).requires.0 (kept_again (turn c.before.before.before).loop-ranks.invariant c.step.ensures)

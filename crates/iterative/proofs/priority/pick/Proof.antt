@@ -36,14 +36,14 @@ loop-o-smaller c = omega arith
 
 -- the operation whose turn it is
 here : (i : tie.In-loop-o invariant-loop-o decreases-loop-o) → get_or i.args.starts.now i.loop-o.o 0 ≡ get_or i.args.starts.now i.loop-o.o 65535
-here i = let i.before = i.before in get_or_within i.args.starts.now i.loop-o.o 0 65535 (omega arith)
+here i = get_or_within i.args.starts.now i.loop-o.o 0 65535 (omega arith)
 
 loop-o-preserved : tie.Need-loop-o-preserved invariant-loop-o decreases-loop-o
 loop-o-preserved c =
     let p = c.loop-o.invariant.1 in
     ⊎_elim
-    (λ w. rw w.2 (omega arith, pick_next p (omega arith) (sym (here c.before.before.before) ∙ w.0.taken) w.1.ensures))
-    (λ w. rw w.1 (omega arith, pick_past p (λ q. w.0.left (here c.before.before.before ∙ q))))
+    (λ w. rw w.best-is (omega arith, pick_next p (omega arith) (sym (here c.before.before.before) ∙ w.if-starts-o.true) w.higher-best.ensures))
+    (λ w. rw w.best-is (omega arith, pick_past p (λ q. w.if-starts-o.false (here c.before.before.before ∙ q))))
     c.if-starts-o.branch-raw
 
 returns : tie.Need-returns invariant-loop-o decreases-loop-o

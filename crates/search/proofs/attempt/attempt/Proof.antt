@@ -30,10 +30,10 @@ kept-requires c κs = omega arith
 
 -- the sweep, from before the write
 abbrev sweeping : tie.After-kept → tie.After-sweep-swept
-sweeping c = c.before.before.before.before.before.before.before
+sweeping c = c.before.before.before.before.before.before
 
 write_list-requires : tie.Need-write_list-requires
-write_list-requires c κs = let s = sweeping c in list_room s.sweep-swept.last.1.0 s.sweep-swept.result _ (start s.before).requires (search rules) c.kept.ensures
+write_list-requires c κs = let s = sweeping c in list_room s.sweep-swept.new.starts s.sweep-swept.result _ (start s.before).requires (search rules) c.kept.ensures
 
 -- ---- once the list is written
 
@@ -44,7 +44,7 @@ entry c = start (sweeping c.before).before
 -- what is then known
 come : (c : tie.After-write_list) → let a = (entry c).args in
     let s = sweeping c.before in
-    Come a.file.now a.n a.resource a.recurrence s.larger.result a.cap a.horizon a.budget a.list.now a.rows.now s.sweep-swept.last.1.0 c.write_list.new.0 s.sweep-swept.last.1.1.0
+    Come a.file.now a.n a.resource a.recurrence s.larger.result a.cap a.horizon a.budget a.list.now a.rows.now s.sweep-swept.new.starts c.write_list.new.list s.sweep-swept.new.rows
     s.sweep-swept.result
 come c =
     let s = sweeping c.before in
@@ -61,14 +61,14 @@ enum_known-swept : tie.Need-enum_known-swept
 enum_known-swept c = omega arith
 
 -- the write, from where the answer has a list, where it has none, and where the budget is spent
-abbrev found_at : tie.In-Found-2 → tie.After-write_list
+abbrev found_at : tie.In-Found → tie.After-write_list
 found_at c = c.before.before.before
 
-abbrev none_at : tie.In-Nothing-2 → tie.After-write_list
+abbrev none_at : tie.In-Nothing → tie.After-write_list
 none_at c = c.before.before.before
 
-abbrev spent-at : tie.In-Spent-2 → tie.After-write_list
-spent-at c = c.before.before.before
+abbrev spent_at : tie.In-Spent → tie.After-write_list
+spent_at c = c.before.before.before
 
 stage_count-requires : tie.Need-stage_count-requires
 stage_count-requires c κs = (entry (found_at c.before.before)).requires.accepted
@@ -119,7 +119,7 @@ shape_of-rows-in-Spent c = omega arith
 
 returns-in-Spent : tie.Need-returns-in-Spent
 returns-in-Spent c =
-    let w = spent-at c in
+    let w = spent_at c in
     stops (entry w).requires (come w) _ c.in-Spent.is
 
 pub attempt_spec : {M : Type 1} → statement M

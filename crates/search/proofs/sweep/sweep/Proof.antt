@@ -7,9 +7,6 @@ use lib.ListN.{length}
 use Rattle.search.proofs.Tops.{Pass, begins, ends, ready, finds, stops, goes_on}
 use Rattle.search.proofs.sweep.sweep.Statement.{statement}
 use Rattle.search.proofs.sweep.sweep.Tie as tie
-use Rattle.search.proofs.sweep.sweep.Reads as reads
-use Rattle.search.proofs.sweep.sweep.Lts as lts
-use Rattle.descent.proofs.choose.Reads as choose-reads
 
 abbrev invariant-loop-ii : tie.invariant-loop-ii
 invariant-loop-ii file starts₀ rows₀ n least cap horizon budget left₀ ii₀ starts rows left ii = Pass file starts₀ rows₀ n least cap horizon budget starts rows left ii
@@ -24,12 +21,12 @@ choose-f-requires : tie.Need-choose-f-requires invariant-loop-ii decreases-loop-
 choose-f-requires c κs = ready c.requires c.loop-ii.invariant c.loop-ii-test.true
 
 -- the entry, from after the call
-abbrev entry : lts.After-choose (choose-reads.Asked, choose-reads.Learnt) reads.Pre reads.Post invariant-loop-ii decreases-loop-ii → lts.Start (choose-reads.Asked, choose-reads.Learnt) reads.Pre reads.Post invariant-loop-ii decreases-loop-ii
+abbrev entry : tie.After-choose-f invariant-loop-ii decreases-loop-ii → tie.Start invariant-loop-ii decreases-loop-ii
 entry w = w.before.before.before.before.before.before.before
 
 -- after the call the rows are as they were
-rows_kept : (w : lts.After-choose (choose-reads.Asked, choose-reads.Learnt) reads.Pre reads.Post invariant-loop-ii decreases-loop-ii) → w.choose.new.1.1.0 ≡ (entry w).args.rows.now
-rows_kept w = w.choose.ensures.1 ∙ w.before.before.before.before.loop.invariant.rows_same
+rows_kept : (w : tie.After-choose-f invariant-loop-ii decreases-loop-ii) → w.choose-f.new.rows ≡ (entry w).args.rows.now
+rows_kept w = w.choose-f.ensures.1 ∙ w.loop-ii.invariant.rows_same
 
 enum_known-f : tie.Need-enum_known-f invariant-loop-ii decreases-loop-ii
 enum_known-f c = c.in-All-1.keys1
