@@ -26,12 +26,12 @@ module _ {f : List ℕ} {ii h : ℕ} {calls rows replies starts free before rows
   table_left = ap (take ii) (t.rows_are ∙ ap (λ (a : Answer Setup). rows_left (calls_of calls) a rows) e) ∙ take_at (state_table (setup_as f ii h) end) _ ii (length_table 2 ii _)
 
   -- and so are the starts
-  pub starts_left : starts' ≡ start_words end.starts
-  starts_left = t.starts_are ∙ ap (λ (a : Answer Setup). starts_left (calls_of calls) a starts) e
+  pub starts_left_lem : starts' ≡ start_words end.starts
+  starts_left_lem = t.starts_are ∙ ap (λ (a : Answer Setup). starts_left (calls_of calls) a starts) e
 
   -- and the numbers of free rows
-  pub free_left : free' ≡ free_rows ii (state_table (setup_as f ii h) end)
-  free_left = t.free_are ∙ ap (λ (a : Answer Setup). free_left (calls_of calls) a free) e
+  pub free_left_lem : free' ≡ free_rows ii (state_table (setup_as f ii h) end)
+  free_left_lem = t.free_are ∙ ap (λ (a : Answer Setup). free_left (calls_of calls) a free) e
 
 -- ---- undoing
 
@@ -51,7 +51,7 @@ undone {f} {ii} {h} {xs} m cs ds t₁ e₁ t₂ e₂ p q given still high =
     ∙ back_whole u m cs ds (start u) given (subst (λ (c : List Call). NoneGives m (replies u ds (after u c (start u)))) p still)
     (subst (λ (c : List Call). m ≤ length (after u ds (after u c (start u))).checkpoints) p high)
     ∙ ap (λ (c : List Call). after u c (start u)) (sym p) in (
-      starts_left t₂ e₂ ∙ ap (λ (st : State). start_words st.starts) same ∙ sym (starts_left t₁ e₁),
+      starts_left_lem t₂ e₂ ∙ ap (λ (st : State). start_words st.starts) same ∙ sym (starts_left_lem t₁ e₁),
       table_left t₂ e₂ ∙ ap (state_table u) same ∙ sym (table_left t₁ e₁),
-      free_left t₂ e₂ ∙ ap (λ (st : State). free_rows ii (state_table u st)) same ∙ sym (free_left t₁ e₁),
+      free_left_lem t₂ e₂ ∙ ap (λ (st : State). free_rows ii (state_table u st)) same ∙ sym (free_left_lem t₁ e₁),
     )

@@ -71,12 +71,12 @@ returns-in_default-opened c =
     let g = c.write_refusal-in_default-opened.ensures in
     rw (g.number ∙ ap check_number q)
     (opening_refused a.file.now a.interval a.horizon a.calls.now a.rows.now a.replies.now a.starts.now a.free.now a.answer.now _ (fine c.before.before.before.before.before.before.before)
-    (opened_is c.«open».ensures q) (g.words ∙ ap (detail_words a.answer.now) q))
+    (opened_is c.open-opening.ensures q) (g.words ∙ ap (detail_words a.answer.now) q))
 
 run-marks-requires : tie.Need-run-marks-requires
 run-marks-requires c κs =
     let a = (start c.before.before.before.before.before.before.before.before.before.before.before).args in
-    ((from_open (opened_is c.«open».ensures c.in-Fine-opened.is)).valid, omega arith, fit_room a.calls.now (length a.replies.now) (fine c.before.before.before.before.before.before.before.before.before.before))
+    ((from_open (opened_is c.open-opening.ensures c.in-Fine-opened.is)).valid, omega arith, fit_room a.calls.now (length a.replies.now) (fine c.before.before.before.before.before.before.before.before.before.before))
 
 write_answer-requires : tie.Need-write_answer-requires
 write_answer-requires c κs = omega arith
@@ -91,7 +91,7 @@ returns : tie.Need-returns
 returns c =
     let a = (start c.before.before.before.before.before.before.before.before.before.before.before.before.before.before.before.before.before.before).args in
     all_made a.file.now a.interval a.horizon a.calls.now a.rows.now a.replies.now a.starts.now a.free.now a.answer.now _ (fine c.before.before.before.before.before.before.before.before.before.before.before.before.before.before.before.before.before)
-    (opened_is c.«open».ensures c.in-Fine-opened.is) c.run-marks.ensures c.write_answer.ensures
+    (opened_is c.open-opening.ensures c.in-Fine-opened.is) c.run-marks.ensures c.write_answer.ensures
 
 pub mw_session_spec : {M : Type 1} → statement M
 mw_session_spec =

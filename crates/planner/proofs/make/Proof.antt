@@ -72,7 +72,7 @@ tried c = c.before.before.before.before.before.before.before
 -- the search was that of the intervals below
 searched_is : (c : tie.After-search-searched) → let t = tried c in
     let a = (start t).args in
-    Searches a.file.now (cap_below t.place_all-quick.result a.cap) a.horizon a.budget a.list.now t.place_all-quick.last.1.1.1.1.1.1.0 c.search-searched.result c.search-searched.new.1.1.1.1.0 c.search-searched.new.1.1.1.1.1.0
+    Searches a.file.now (cap_below t.place_all-quick.result a.cap) a.horizon a.budget a.list.now t.place_all-quick.new.rows c.search-searched.result c.search-searched.new.list c.search-searched.new.rows
 searched_is c = rw c.below.ensures at c.search-searched.ensures
 
 -- the quick list was not at the larger bound
