@@ -5,7 +5,6 @@ use Prim.Native.Nat.{◌+◌}
 use native.Mathlib.Nat.{mod-lt}
 use lib.ListN.{get_or}
 use borrow.Author.Rules.{rules}
-use borrow.Author.Tests.{not-true, not-false}
 use Rattle.model.specs.Loop.{Use, no_use, op_at, all_uses}
 use Rattle.model.specs.File.{loop_of}
 use Rattle.model.specs.Legality.{covers}

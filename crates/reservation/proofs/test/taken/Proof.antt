@@ -7,7 +7,7 @@ use lib.Bits.{and_mask}
 use lib.Dec.{eqb, leb, ltb}
 use lib.ListN.{get_or}
 use borrow.Author.Rules.{rules}
-use borrow.Author.Tests.{not-true, not-false, leb-true, ltb-true}
+use borrow.Author.Tests.{leb-true, ltb-true}
 use Rattle.model.specs.Loop.{Use, UseOk, no_use, all_uses}
 use Rattle.model.specs.File.{loop_of}
 use Rattle.model.specs.Legality.{covers}
