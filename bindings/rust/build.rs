@@ -13,6 +13,9 @@ const VARIABLE: &str = "MWELITUNGA_LIB_DIR";
 /// The name of the library's file.
 const LIBRARY: &str = "libmwelitunga.a";
 
+/// The script of the repository that has `rt` prove and build the library. Its status is 127 where there is no `rt`.
+const BUILDER: &str = "bin/build-library";
+
 fn main() {
     println!("cargo:rerun-if-changed=build.rs");
     println!("cargo:rerun-if-env-changed={VARIABLE}");
@@ -101,7 +104,7 @@ fn of_cargo() -> Option<PathBuf> {
     None
 }
 
-/// The folder below the repository's root in which `rt` writes the library; built now where it is missing.
+/// The folder below the repository's root that has the library; built now where it is missing.
 fn of_repository() -> Result<PathBuf, String> {
     let manifest = env::var_os("CARGO_MANIFEST_DIR").ok_or("CARGO_MANIFEST_DIR is not set")?;
     let root = Path::new(&manifest).join("..").join("..");
@@ -111,7 +114,7 @@ fn of_repository() -> Result<PathBuf, String> {
         build(&root)?;
         if !library.is_file() {
             return Err(format!(
-                "`rt staticlib mwelitunga` ended well, but {} is not there",
+                "`{BUILDER}` ended well, but {} is not there",
                 library.display()
             ));
         }
@@ -121,26 +124,28 @@ fn of_repository() -> Result<PathBuf, String> {
 
 /// Proves and builds the library in the repository.
 fn build(root: &Path) -> Result<(), String> {
-    const WHY: &str =
-        "the library was not there: `rt staticlib mwelitunga` proves and builds it, which takes about four minutes";
-    println!("cargo:warning={WHY}");
-    eprintln!("mwelitunga: {WHY}");
-    let status = Command::new("rt")
-        .args(["staticlib", "mwelitunga"])
-        .current_dir(root)
+    let why = format!(
+        "the library was not there: `{BUILDER}` has `rt` prove and build it, which takes five to ten minutes"
+    );
+    println!("cargo:warning={why}");
+    eprintln!("mwelitunga: {why}");
+    let status = Command::new(root.join(BUILDER))
         .status()
-        .map_err(|error| {
-            format!(
-                "{LIBRARY} is not there, and `rt`, which builds it, cannot be run ({error}). \
-                 Install the Rattle toolchain and run `rt staticlib mwelitunga` in the repository's root, \
-                 or set {VARIABLE} to a folder that has {LIBRARY}"
-            )
-        })?;
-    if status.success() {
-        Ok(())
-    } else {
-        Err(format!(
-            "`rt staticlib mwelitunga` failed ({status}); run it in the repository's root to see why"
-        ))
+        .map_err(|error| missing(BUILDER, &format!("cannot be run ({error})")))?;
+    match status.code() {
+        Some(0) => Ok(()),
+        Some(127) => Err(missing("rt", "was not found")),
+        _ => Err(format!(
+            "`{BUILDER}` failed ({status}); run it in the repository's root to see why"
+        )),
     }
+}
+
+/// The message where the library is not there, nor a command that builds it.
+fn missing(command: &str, what: &str) -> String {
+    format!(
+        "{LIBRARY} is not there, and `{command}`, which builds it, {what}. \
+         Install the Rattle toolchain and run `{BUILDER}` in the repository's root, \
+         or set {VARIABLE} to a folder that has {LIBRARY}"
+    )
 }
