@@ -6,7 +6,7 @@ use crate::line::text;
 use std::io::{Read, Stdin};
 
 // What was read: whether the input came whole, to its end with no read that failed, and how many bytes at the start of the buffer are kept of it.
-#[derive(Drop)]
+#[derive(Clone, Copy)]
 pub struct Input {
     pub whole: bool,
     pub count: usize,

@@ -21,7 +21,7 @@ pub fn find(text: &[u8], at: usize, byte: u8) -> usize
 }
 
 // A number that was read, and the place after it.
-#[derive(Drop)]
+#[derive(Clone, Copy)]
 pub struct Scanned {
     pub value: usize,
     pub next: usize,

@@ -20,7 +20,7 @@ use reservation::cells::{release, reserve};
 pub use window::earliest;
 
 // What a part of the search comes to: every operation has a start, and so much is left of the budget; the budget is spent; there is no list, and so much is left.
-#[derive(Drop)]
+#[derive(Clone, Copy)]
 pub enum Found {
     All(usize),
     Spent,

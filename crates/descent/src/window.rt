@@ -9,7 +9,7 @@ ghost use Rattle.descent.specs.Links.{later_end, Linked};
 use loop_access::{delay, dep_count, distance, source, target};
 
 // The starts from `from` to `to` - 1.
-#[derive(Drop)]
+#[derive(Clone, Copy)]
 pub struct Window {
     pub from: usize,
     pub to: usize,

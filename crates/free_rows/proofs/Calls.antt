@@ -12,7 +12,7 @@ use native.Mathlib.Omega.{arith}
 use lib.Dec.{eqb}
 use lib.ListN.{length, get_or}
 use Rattle.model.specs.Lists.{up_from, sum_of}
-use Rattle.model.specs.Refusals.{Refusal, first_refusal, Answer, answered, refused}
+use Rattle.model.specs.Refusals.{Refusal, first_refusal, Answer, answered}
 use Rattle.model.specs.Loop.{size, op_at, op_on}
 use Rattle.model.specs.File.{loop_of, Accepted}
 use Rattle.model.specs.Table.{number, free_of, free_rows}

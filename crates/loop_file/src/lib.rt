@@ -14,7 +14,7 @@ use loop_access::bytes::word;
 use refusals::Checked;
 
 // What reading a file answers: the numbers of operations, uses and dependences, or a refusal with its number and detail.
-#[derive(Drop)]
+#[derive(Clone, Copy)]
 pub enum Reading {
     Accepted(usize, usize, usize),
     Refused(usize, usize),

@@ -10,7 +10,7 @@ use loop_access::bytes::{signed, wide, word};
 use loop_access::{LONGEST, USE_WIDTH};
 
 // A number for the next part, or a refusal with its number and detail.
-#[derive(Drop)]
+#[derive(Clone, Copy)]
 pub enum Part {
     Fine(usize),
     Refused(usize, usize),

@@ -10,7 +10,7 @@ ghost use Rattle.loop_writer.specs.Answer.{fields_by, as_written, Writes};
 use refusals::Checked;
 
 // What writing a file answers: its number of bytes, or a refusal with its number and detail.
-#[derive(Drop)]
+#[derive(Clone, Copy)]
 pub enum Written {
     Bytes(usize),
     Refused(usize, usize),

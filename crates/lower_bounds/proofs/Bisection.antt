@@ -25,9 +25,9 @@ use Rattle.lower_bounds.proofs.Bound.{ever}
 never : {X : Type 0} → ◌≡◌ {A = Bool} true false → X
 never e = let z : ◌≡◌ {A = ℕ} 0 1 = cc in absurd (omega arith)
 
-not-false : (b : Bool) → false ≡ not b → b ≡ true
-not-false true e = refl
-not-false false e = e
+not_false : (b : Bool) → false ≡ not b → b ≡ true
+not_false true e = refl
+not_false false e = e
 
 -- an array of zeros holds zeros
 pub zeros_hold : (n m : ℕ) → n ≤ m → Holds n (replicate m (pos 0)) (replicate n 0)
@@ -56,7 +56,7 @@ module _ (l : Loop) (ok : LoopOk l) (ii : ℕ) where
   pub round_calm : (r : ℕ) (x x' : List ℤ) (changed : Bool) → changed ≡ false → Holds (size l) x (rounds l ii (size l) r) → Rounded l ii x x' changed → Feasible l ii
   round_calm r x x' changed e h q =
       let xs : List ℕ = rounds l ii (size l) r in
-      let m : met_to l ii (length l.deps) xs ≡ true = not-false (met_to l ii (length l.deps) xs) (sym e ∙ (rw (holds_nats h) at q.test)) in
+      let m : met_to l ii (length l.deps) xs ≡ true = not_false (met_to l ii (length l.deps) xs) (sym e ∙ (rw (holds_nats h) at q.test)) in
       record { starts = xs; all_ops = rounds_length l ii (size l) r; all_met = each_met l ok.dep_ok ii xs (rounds_length l ii (size l) r) (met_to_meets l ii (length l.deps) xs m) }
 
   -- a round that changed a value: there are rounds left, or a closed walk is too heavy

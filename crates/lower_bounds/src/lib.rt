@@ -13,7 +13,7 @@ ghost use Rattle.lower_bounds.specs.Answer.{bounds_of};
 pub use resource::total_on;
 
 // The resource bound and the recurrence bound, or a refusal with its number and detail.
-#[derive(Drop)]
+#[derive(Clone, Copy)]
 pub enum LowerBounds {
     Found(usize, usize),
     Refused(usize, usize),

@@ -16,7 +16,7 @@ use Rattle.model.specs.Lists.{any_of, sum_of}
 use Rattle.model.specs.Integers.{plus}
 use Rattle.model.specs.Refusals.{first_refusal}
 use Rattle.model.specs.Loop.{Use, Op, Dep, Loop, no_use, no_op, no_dep, size, op_at, dep_at, use_at, all_uses, first_use_of, UseOk, OpOk, DepOk, LoopOk}
-use Rattle.model.specs.File.{use_width, oper, uses, deps, op_checks, use_checks, dep_checks, size_checks}
+use Rattle.model.specs.File.{use_width, oper, deps, op_checks, use_checks, dep_checks, size_checks}
 use Rattle.model.specs.Writer.{Fields, op_fields, use_fields, dep_fields, fields_of, HaveBytes, AtOnce, field_at, op_total, dep_total, uses_given, first_given, use_from, op_from, dep_from, loop_from, op_given_checks, slot_before, use_given_checks, op_uses_given_checks, uses_given_checks, dep_given_checks, given_checks}
 use Rattle.model.proofs.Lists.{and_left, and_right, any_each, any_flat_map, at_any}
 use Rattle.model.proofs.Rows.{tabulate_is}

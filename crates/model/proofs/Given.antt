@@ -15,7 +15,7 @@ use Rattle.model.specs.Lists.{up_from}
 use Rattle.model.specs.Integers.{plus}
 use Rattle.model.specs.Refusals.{first_refusal}
 use Rattle.model.specs.Loop.{size, all_uses}
-use Rattle.model.specs.File.{signed_byte, Section, use_width, oper, uses, deps, not_up_to, not_below, not_between, op_checks, use_checks, dep_checks, size_checks}
+use Rattle.model.specs.File.{signed_byte, Section, use_width, oper, deps, not_up_to, not_below, not_between, op_checks, use_checks, dep_checks, size_checks}
 use Rattle.model.specs.Writer.{Fields, op_fields, use_fields, dep_fields, fields_of, byte_of, file_by, file_of, field_at, op_total, use_total, dep_total, uses_given, first_given, use_from, op_from, dep_from, loop_from, op_given_checks, slot_before, use_given_checks, op_uses_given_checks, uses_given_checks, dep_given_checks, given_checks}
 use Rattle.model.proofs.Lists.{true_false, and_left, length_tabulate}
 use Rattle.model.proofs.Rows.{row_is, flat_map_lem, flat_flat, flat_grows}

@@ -1,19 +1,18 @@
 -- The release sheet: totals with one file more, that answers and sheet are determined, and that a legal schedule covers as many cells of a slot as its operations hold it for. Assumes nothing.
 use mathlib.Core.Path.{◌≡◌, refl, sym, ap, ◌∙◌}
-use mathlib.Core.Bool.{true, cond}
+use mathlib.Core.Bool.{true}
 use mathlib.Core.List.{List, [], ◌∷◌, ◌++◌}
 use mathlib.Core.Option.{none, some}
-use Prim.Native.Nat.{ℕ, suc, ◌+◌, ◌*◌, ◌≤◌}
+use Prim.Native.Nat.{ℕ, suc, ◌+◌, ◌≤◌}
 use native.Mathlib.Omega.{arith}
 use lib.ListN.{length}
 use Rattle.model.specs.Lists.{up_from, sum_of}
-use Rattle.model.specs.Refusals.{Answer, answered, refused}
+use Rattle.model.specs.Refusals.{Answer, answered}
 use Rattle.model.specs.Loop.{Loop, size, LoopOk}
 use Rattle.model.specs.Legality.{placed, meets, apart, legal_at, legal}
 use Rattle.model.specs.Table.{count_of, cells_of, covered_at}
 use Rattle.model.specs.Bounds.{total_on}
 use Rattle.model.specs.Search.{Schedule, Outcome, SearchIs, rows_after}
-use Rattle.model.specs.Bundle.{files}
 use Rattle.model.specs.Sheet.{sheet_request, Item, Answers, no_more, one_more, Measure, measured, total_of, covered_on, SheetIs, by_check, by_files, rows_through}
 use Rattle.model.proofs.Lists.{and_right, sum_append, sum_same}
 use Rattle.model.proofs.Sums.{count_sum}

@@ -26,7 +26,7 @@ pub struct PlanFound {
 }
 
 // A schedule; refusal 10 or 11 with its number, its detail and the probes that were made; another refusal with its number and detail.
-#[derive(Drop)]
+#[derive(Clone, Copy)]
 pub enum Planned {
     Found(PlanFound),
     Ended(usize, usize, usize),

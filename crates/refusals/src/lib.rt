@@ -7,7 +7,7 @@ ghost use Rattle.model.specs.Refusals as model;
 ghost use Rattle.refusals.specs.Checked.{refusal_of, AskedIs};
 
 // Nothing against it, or a refusal with its number and detail.
-#[derive(Drop)]
+#[derive(Clone, Copy)]
 pub enum Checked {
     Fine,
     Refused(usize, usize),

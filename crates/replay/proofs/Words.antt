@@ -17,7 +17,6 @@ use Rattle.model.specs.Session as model
 use Rattle.model.proofs.Lists.{length_tabulate, get_or_tabulate}
 use Rattle.session.specs.View.{file_of, state_of, Valid}
 use Rattle.session.specs.declared.Session.{Session}
-use Rattle.board.specs.declared.Reply.{Reply}
 use Rattle.board.proofs.Boards.{same_seats}
 use Rattle.reservation.specs.Seats.{seat_of, seats}
 use Rattle.replay.specs.Replay.{reply_words, all_words, start_word, start_words}

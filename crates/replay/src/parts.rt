@@ -5,7 +5,7 @@ ghost use Rattle.replay.specs.Parts.{StepReady, StepMade};
 use board::{Reply, moves};
 
 // How many checkpoints are open after a call, and its answer.
-#[derive(Drop)]
+#[derive(Clone, Copy)]
 pub struct Step {
     pub marks: usize,
     pub reply: Reply,

@@ -13,7 +13,7 @@ ghost use Rattle.std.specs.Prelude.{◌≡◌};
 ghost use Rattle.reservation.specs.Place.{number_in, InRange};
 
 // What the conflict test answers: the operation fits, or the first cycle (counted from its start) in which it meets a taken cell, with the lowest such slot.
-#[derive(Drop)]
+#[derive(Clone, Copy)]
 pub enum Place {
     Free,
     Taken(usize, usize),
@@ -31,7 +31,7 @@ pub fn number(p: Place) -> usize
 }
 
 // What the search for a broken dependence answers: none, or the first by its number.
-#[derive(Drop)]
+#[derive(Clone, Copy)]
 pub enum Broken {
     Nothing,
     At(usize),

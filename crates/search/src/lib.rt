@@ -22,7 +22,7 @@ pub struct Solution {
 }
 
 // A schedule; refusal 10 or 11 with its number, its detail and the probes that were made; another refusal with its number and detail.
-#[derive(Drop)]
+#[derive(Clone, Copy)]
 pub enum Searched {
     Found(Solution),
     Ended(usize, usize, usize),

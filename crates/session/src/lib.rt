@@ -45,7 +45,7 @@ pub struct After {
 }
 
 // What opening answers. A refused opening hands out a session of nothing, which no call takes.
-#[derive(Drop)]
+#[derive(Clone, Copy)]
 pub struct Opening {
     pub session: Session,
     pub answer: Checked,

@@ -1,7 +1,7 @@
 -- One file more in the sums: what is known of a schedule that is found, the 24 numbers raised one after the other, and the sums over a list with one file more. Assumes nothing.
 use mathlib.Core.Path.{◌≡◌, refl, sym, ap, ◌∙◌}
 use mathlib.Core.Bool.{Bool, true, false, cond}
-use mathlib.Core.List.{List, [], ◌∷◌, ◌++◌, map}
+use mathlib.Core.List.{List, [], ◌∷◌, ◌++◌}
 use Prim.Native.Nat.{ℕ, zero, suc, ◌+◌, ◌*◌, ◌≤◌, ◌<◌, max}
 use native.Mathlib.Decide.{ℕ_discrete}
 use native.Mathlib.Omega.{arith}
@@ -10,7 +10,7 @@ use lib.ListN.{length, get_or, set, length-set}
 use lib.Seq.{get_or-set_same, get_or-set_other}
 use Rattle.model.specs.Lists.{up_from, count_if, sum_of}
 use Rattle.model.specs.Refusals.{Answer, answered, refused}
-use Rattle.model.specs.Loop.{Loop, LoopOk, all_uses}
+use Rattle.model.specs.Loop.{Loop, all_uses}
 use Rattle.model.specs.File.{loop_of, Accepted}
 use Rattle.model.specs.Legality.{placed}
 use Rattle.model.specs.Table.{covered_at}
@@ -30,9 +30,8 @@ use Rattle.search.specs.declared.Searched.TheVariants as searched
 use Rattle.search.specs.declared.Solution.{Solution}
 use Rattle.search.proofs.Requests.{bound_positive}
 use Rattle.search.proofs.Sweeps.{found_is}
-use Rattle.sheet.specs.Sums.{sums_of, told, bound_of, Each, Small, Plus, Counted, Adds}
+use Rattle.sheet.specs.Sums.{sums_of, told, bound_of, Small, Plus, Counted, Adds}
 use Rattle.sheet.specs.declared.sums.Sums.{Sums}
-use Rattle.sheet.specs.declared.sums.Added.{Added}
 
 -- ---- a schedule that is found
 

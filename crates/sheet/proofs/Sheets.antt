@@ -3,13 +3,12 @@ use mathlib.Core.Path.{◌≡◌, refl, sym, ap, ◌∙◌}
 use mathlib.Core.List.{List, [], ◌∷◌}
 use mathlib.Core.Option.{none, some}
 use Prim.Native.Nat.{ℕ, ◌≤◌}
-use native.Mathlib.Omega.{arith}
 use borrow.Author.Tests.{ltb-false}
 use lib.ListN.{length}
 use Rattle.model.specs.Lists.{written}
-use Rattle.model.specs.Refusals.{Refusal, lent, first_refusal, Answer, answered, refused}
+use Rattle.model.specs.Refusals.{Refusal, lent, first_refusal, answered, refused}
 use Rattle.model.specs.Bundle.{bundle_checks, read_bundle, files, count_in}
-use Rattle.model.specs.Sheet.{Item, totals_of, sheet_checks, by_check, by_files}
+use Rattle.model.specs.Sheet.{totals_of, sheet_checks, by_check, by_files}
 use Rattle.model.proofs.Checks.{refusal_append, refusal_early, passes_head}
 use Rattle.model.proofs.Bundle.{read_refused, read_accepted}
 use Rattle.model.proofs.Sheet.{answers_length}
@@ -19,8 +18,7 @@ use Rattle.refusals.specs.declared.Checked.TheVariants as checked
 use Rattle.bundle.specs.Answer.{bundled_of}
 use Rattle.bundle.specs.declared.Bundled.{Bundled}
 use Rattle.bundle.specs.declared.Bundled.TheVariants as bundled
-use Rattle.sheet.specs.Sums.{sums_of}
-use Rattle.sheet.specs.Lines.{slot_words, fraction_words}
+use Rattle.sheet.specs.Lines.{slot_words}
 use Rattle.sheet.specs.Answer.{as_unread, as_refused, Walked, Sheets}
 use Rattle.sheet.specs.declared.sums.Sums.{Sums}
 use Rattle.sheet.specs.declared.Sheet.{Sheet}

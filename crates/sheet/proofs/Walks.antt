@@ -1,17 +1,16 @@
 -- The files of a bundle, one after the other: what holds after some of them, and the sheet that all of them make. Assumes nothing.
 use mathlib.Core.Path.{◌≡◌, refl, sym, ap, ◌∙◌}
 use mathlib.Core.List.{List, [], ◌∷◌, ◌++◌, flat_map}
-use mathlib.Core.Option.{none, some}
-use Prim.Native.Nat.{ℕ, suc, ◌+◌, ◌*◌, ◌≤◌, ◌<◌}
+use Prim.Native.Nat.{ℕ, ◌+◌, ◌*◌, ◌≤◌, ◌<◌}
 use native.Mathlib.Numerals.{add-one}
 use native.Mathlib.Omega.{arith}
-use lib.ListN.{length, get_or, take, drop, replicate, length-append, length-drop, length-replicate}
+use lib.ListN.{length, take, drop, replicate, length-append, length-drop, length-replicate}
 use lib.Seq.{take-suc, take_all, length-take-le}
 use Rattle.model.specs.Lists.{written}
-use Rattle.model.specs.Refusals.{Refusal, lent, first_refusal, Answer, answered, refused}
-use Rattle.model.specs.Search.{Outcome, SearchIs, rows_after}
-use Rattle.model.specs.Bundle.{bundle_checks, read_bundle, files, file_at, count_in}
-use Rattle.model.specs.Sheet.{sheet_request, Item, Answers, no_more, totals_of, sheet_checks, SheetIs, by_check, by_files, rows_through}
+use Rattle.model.specs.Refusals.{Answer, answered, refused}
+use Rattle.model.specs.Search.{Outcome, rows_after}
+use Rattle.model.specs.Bundle.{files, file_at}
+use Rattle.model.specs.Sheet.{Item, Answers, no_more, rows_through}
 use Rattle.model.proofs.Sheet.{answers_length, answers_more, through_more}
 use Rattle.search.specs.declared.Searched.{Searched}
 use Rattle.sheet.specs.Sums.{sums_of, Small, Adds}

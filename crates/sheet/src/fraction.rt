@@ -7,7 +7,7 @@ ghost use Rattle.sheet.specs.Lines.{fraction_of, slot_words};
 use crate::sums::Sums;
 
 // A fraction.
-#[derive(Drop)]
+#[derive(Clone, Copy)]
 pub struct Fraction {
     pub num: usize,
     pub den: usize,

@@ -18,7 +18,7 @@ use refusals::Checked;
 use search::Searched;
 
 // The totals: how many files there are, how many are scheduled, how many of those are at the larger bound, and the sum of their intervals. How much each slot is used is in the caller's array.
-#[derive(Drop)]
+#[derive(Clone, Copy)]
 pub struct Totals {
     pub files: usize,
     pub scheduled: usize,
@@ -27,7 +27,7 @@ pub struct Totals {
 }
 
 // The totals, or a refusal with its number and detail.
-#[derive(Drop)]
+#[derive(Clone, Copy)]
 pub enum Sheet {
     Made(Totals),
     Refused(usize, usize),

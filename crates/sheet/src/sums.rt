@@ -17,7 +17,7 @@ pub struct Sums {
 }
 
 // What the search answers for a file, and the sums with it.
-#[derive(Drop)]
+#[derive(Clone, Copy)]
 pub struct Added {
     pub answer: Searched,
     pub sums: Sums,

@@ -9,7 +9,7 @@ use crate::picture;
 pub const NONE: usize = 18446744073709551615;
 
 // A list of starts, and what is left of its number: 0, or more where there is no such list.
-#[derive(Drop)]
+#[derive(Clone, Copy)]
 pub struct Listed {
     pub starts: [u16; 6],
     pub left: usize,

@@ -1,6 +1,5 @@
 -- The parts of the verdict, on a list of starts of which the first ones count. Assumes nothing.
 use Rattle.std.specs.Prelude.{Bool, cond, List, ℕ, ◌+◌, ◌%◌, ◌≤◌, ◌<◌, eqb, leb, length, get_or, take}
-use Rattle.std.proofs.Math.Option.{some}
 use Rattle.model.specs.Loop.{Use, Op, Loop, size}
 use Rattle.reservation.specs.Overlaps.{covers_cell}
 

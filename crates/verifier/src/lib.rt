@@ -16,7 +16,7 @@ use walk::Pair;
 
 // Legal; the number of a broken dependence; the two operations of a conflict, with the first place in which the second meets the first, 32 times the cycle of the second and the slot; or a refusal with its number and
 // detail.
-#[derive(Drop)]
+#[derive(Clone, Copy)]
 pub enum Verdict {
     Legal,
     Broken(usize),

@@ -20,7 +20,7 @@ use reservation::test::own_place;
 use reservation::{Broken, Place};
 
 // No pair conflicts, or the first pair that does.
-#[derive(Drop)]
+#[derive(Clone, Copy)]
 pub enum Pair {
     Nothing,
     At(usize, usize),

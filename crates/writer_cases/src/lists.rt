@@ -1,7 +1,7 @@
 // Lists of numbers, read from a line of the table.
 
 // A list that is read, and the place in the line behind it.
-#[derive(Drop)]
+#[derive(Clone, Copy)]
 pub struct List {
     pub count: usize,
     pub next: usize,

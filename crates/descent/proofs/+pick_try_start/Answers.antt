@@ -11,7 +11,7 @@ pub pick-loop-s-init : goal.pick-loop-s-init
 pick-loop-s-init t c = let p = c.requires.0 in enters p.ready p.window p.inside c.next_free-s.ensures
 
 pub pick-overflow_sub-passed : goal.pick-overflow_sub-passed
-pick-overflow_sub-passed t c = c.loop-s.invariant.behind
+pick-overflow_sub-passed t c = omega (arith, c.loop-s.invariant.behind)
 
 pub pick-returns-then-purse-passed-clause-done : goal.pick-returns-then-purse-passed-clause-done
 pick-returns-then-purse-passed-clause-done t c =

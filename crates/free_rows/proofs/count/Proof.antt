@@ -36,8 +36,8 @@ abbrev whose : tie.In-loop-j invariant-loop-j decreases-loop-j → Op
 whose c = op_at (loop_of (entry c).args.file.now) (entry c).args.op
 
 -- the use whose turn it is
-abbrev now-use : tie.In-loop-j invariant-loop-j decreases-loop-j → Use
-now-use c = use_at (whose c) c.loop-j.j
+abbrev now_use : tie.In-loop-j invariant-loop-j decreases-loop-j → Use
+now_use c = use_at (whose c) c.loop-j.j
 
 -- its number among all uses
 here : (c : tie.In-loop-j invariant-loop-j decreases-loop-j)
@@ -53,11 +53,11 @@ below : (c : tie.In-loop-j invariant-loop-j decreases-loop-j) → c.loop-j.j < l
 below c = omega (arith, c.loop-j-test.true, c.use_count-n.ensures)
 
 -- and in range
-ok : (c : tie.In-loop-j invariant-loop-j decreases-loop-j) → UseOk (now-use c)
+ok : (c : tie.In-loop-j invariant-loop-j decreases-loop-j) → UseOk (now_use c)
 ok c = let s = entry c in ((accepted_ok s.args.file.now s.requires.0).op_ok s.args.op s.requires.1).each c.loop-j.j (below c)
 
 -- and there is room for it
-room : (c : tie.In-loop-j invariant-loop-j decreases-loop-j) → Room (entry c).args.comes (λ s. use_on s (now-use c)) c.loop-j.free
+room : (c : tie.In-loop-j invariant-loop-j decreases-loop-j) → Room (entry c).args.comes (λ s. use_on s (now_use c)) c.loop-j.free
 room c =
     let r = (entry c).requires.2 in
     room_after (λ s. uses_part (whose c) c.loop-j.j s (below c)) r c.loop-j.invariant.1
@@ -69,11 +69,11 @@ slot-at-requires : tie.Need-slot-at-requires invariant-loop-j decreases-loop-j
 slot-at-requires c κs = ((entry c).requires.0, (here c).inside)
 
 -- what is read of it: its slot
-slot_is : (c : tie.After-slot-at invariant-loop-j decreases-loop-j) → c.slot-at.result ≡ (now-use c.before).slot
+slot_is : (c : tie.After-slot-at invariant-loop-j decreases-loop-j) → c.slot-at.result ≡ (now_use c.before).slot
 slot_is c = c.slot-at.ensures ∙ ap (λ (u : Use). u.slot) (here c.before).is
 
 -- and its duration
-duration_is : (c : tie.After-duration-cycles invariant-loop-j decreases-loop-j) → c.duration-cycles.result ≡ (now-use c.before.before).duration
+duration_is : (c : tie.After-duration-cycles invariant-loop-j decreases-loop-j) → c.duration-cycles.result ≡ (now_use c.before.before).duration
 duration_is c = c.duration-cycles.ensures ∙ ap (λ (u : Use). u.duration) (here c.before.before).is
 
 -- the number of its slot is one of the 24

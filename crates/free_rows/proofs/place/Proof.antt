@@ -1,8 +1,7 @@
 -- `place` meets its contract: an operation that was placed is counted, and where none was the numbers stay. Assumes nothing.
-use mathlib.Core.Path.{sym, ap}
+use mathlib.Core.Path.{sym}
 use borrow.Author.Rules.{rules}
 use lib.Seq.{length-take-le}
-use Rattle.board.specs.Moves.{reply_of}
 use Rattle.free_rows.proofs.Calls.{other_done, else_free, placed_room, placed_free}
 use Rattle.free_rows.proofs.place.Statement.{statement}
 use Rattle.free_rows.proofs.place.Tie as tie
@@ -25,14 +24,14 @@ slice_bounds-count-end c = sym (length-take-le c.args.length_ c.args.store.now c
 
 count-requires : tie.Need-count-requires
 count-requires c κs =
-    placed_room c.requires.1 c.place-placed.ensures (ap reply_of c.in-Done.is) c.args.free.now c.requires.2
+    placed_room c.requires.1 c.place-placed.ensures (search rules) c.args.free.now c.requires.2
 
 shape_of-rows : tie.Need-shape_of-rows
 shape_of-rows c = search rules
 
 returns : tie.Need-returns
 returns c =
-    (c.place-placed.ensures, placed_free c.requires.1 c.place-placed.ensures (ap reply_of c.in-Done.is) c.args.free.now c.requires.2 _ c.count.ensures)
+    (c.place-placed.ensures, placed_free c.requires.1 c.place-placed.ensures (search rules) c.args.free.now c.requires.2 _ c.count.ensures)
 
 pub place_spec : {M : Type 1} → statement M
 place_spec = tie.close (tie.spec place-placed-requires enum_told-1 shape_of-rows-in_default returns-in_default slice_bounds-count-end count-requires shape_of-rows returns)

@@ -32,9 +32,9 @@ shape_of-rows c = search rules
 
 returns : tie.Need-returns
 returns c = (
-      c.remove-removed.ensures,
-      removed_free c.requires.1 (c.remove-removed.ensures 4096 c.requires.1) (ap reply_of c.in-Done.is) c.args.free.now c.requires.2 _ c.count.ensures,
-    )
+  c.remove-removed.ensures,
+  removed_free c.requires.1 (c.remove-removed.ensures 4096 c.requires.1) (ap reply_of c.in-Done.is) c.args.free.now c.requires.2 _ c.count.ensures,
+)
 
 pub remove_spec : {M : Type 1} → statement M
 remove_spec = tie.close (tie.spec remove-removed-requires enum_told-1 shape_of-rows-in_default returns-in_default slice_bounds-count-end count-requires shape_of-rows returns)

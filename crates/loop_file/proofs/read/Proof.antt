@@ -110,19 +110,19 @@ returns-in_default-third c =
 
 -- ---- once the bodies are right
 
-abbrev bodiesOf : tie.In-Fine-third → tie.After-bodies-third
-bodiesOf c = c.before
+abbrev bodies_of : tie.In-Fine-third → tie.After-bodies-third
+bodies_of c = c.before
 
 word-requires : tie.Need-word-requires
-word-requires c κs = omega (arith, long (file_of (bodiesOf c).before) (head_passed (before (bodiesOf c).before)))
+word-requires c κs = omega (arith, long (file_of (bodies_of c).before) (head_passed (before (bodies_of c).before)))
 
 word-requires-2 : tie.Need-word-requires-2
-word-requires-2 c κs = omega (arith, long (file_of (bodiesOf c.before).before) (head_passed (before (bodiesOf c.before).before)))
+word-requires-2 c κs = omega (arith, long (file_of (bodies_of c.before).before) (head_passed (before (bodies_of c.before).before)))
 
 returns : tie.Need-returns
 returns c =
     let n = c.before.before in
-    let b = bodiesOf n in
+    let b = bodies_of n in
     let k = b.before in
     let e = ap part_of n.in-Fine-third.is in
     let a : Accepted (file_of k) = bodies_come (file_of k) (head_passed (before k)) (contents_passed k) ∙ fine_none _ b.bodies-third.ensures e in

@@ -83,21 +83,21 @@ not_least c = c.if-quick-least.false
 abbrev found_from : tie.In-Found → tie.After-search-searched
 found_from c = c.before.before.before.before.before
 
-abbrev ended-from : tie.In-Ended → tie.After-search-searched
-ended-from c = c.before.before.before.before.before
+abbrev ended_from : tie.In-Ended → tie.After-search-searched
+ended_from c = c.before.before.before.before.before
 
-abbrev refused-from : tie.In-Refused → tie.After-search-searched
-refused-from c = c.before.before.before.before.before
+abbrev refused_from : tie.In-Refused → tie.After-search-searched
+refused_from c = c.before.before.before.before.before
 
 returns-then-quick-eq0 : tie.Need-returns-then-quick-eq0
 returns-then-quick-eq0 c =
-    let s = ended-from c.before in
+    let s = ended_from c.before in
     let t = tried s in
     search_ended (start t).requires (bounding t).larger-least.ensures refl t.place_all-quick.ensures (not_least s) (searched_is s) c.in-Ended.is c.if-quick-eq0.true
 
 keep-requires-in-Ended : tie.Need-keep-requires-in-Ended
 keep-requires-in-Ended c κs =
-    let s = ended-from c.before.before.before in
+    let s = ended_from c.before.before.before in
     let t = tried s in
     room_left (start t).requires (bounding t).larger-least.ensures refl t.place_all-quick.ensures (not_least s) (searched_is s) c.in-Ended.is
 
@@ -124,7 +124,7 @@ shape_of-rows-else-quick-eq0 c = omega arith
 
 returns-else-quick-eq0 : tie.Need-returns-else-quick-eq0
 returns-else-quick-eq0 c =
-    let s = ended-from c.before.before.before.before.before.before in
+    let s = ended_from c.before.before.before.before.before.before in
     let t = tried s in
     keeps_quick (start t).requires (bounding t).larger-least.ensures refl t.place_all-quick.ensures (not_least s) (searched_is s) c.in-Ended.is c.if-quick-eq0.false c.keep-in-Ended.ensures
 
@@ -136,7 +136,7 @@ shape_of-rows-in-Refused c = omega arith
 
 returns-in-Refused : tie.Need-returns-in-Refused
 returns-in-Refused c =
-    let s = refused-from c in
+    let s = refused_from c in
     let t = tried s in
     not_refused (start t).requires (bounding t).larger-least.ensures refl t.place_all-quick.ensures (not_least s) (searched_is s) c.in-Refused.is
 

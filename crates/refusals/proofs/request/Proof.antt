@@ -12,21 +12,21 @@ use Rattle.refusals.proofs.request.Tie as tie
 
 -- the table, for a loop of n operations, and what is left of it after each check
 module _ (s : tie.Start) where
-  abbrev byList : ℕ → List Check
-  byList n = lent n s.args.list ∷ lent 4096 s.args.rows ∷ []
+  abbrev by_list : ℕ → List Check
+  by_list n = lent n s.args.list ∷ lent 4096 s.args.rows ∷ []
 
-  abbrev byBudget : ℕ → List Check
-  byBudget n = range 3 1000000 s.args.budget ∷ byList n
+  abbrev by_budget : ℕ → List Check
+  by_budget n = range 3 1000000 s.args.budget ∷ by_list n
 
-  abbrev byHorizon : ℕ → List Check
-  byHorizon n = range 2 4096 s.args.horizon ∷ byBudget n
+  abbrev by_horizon : ℕ → List Check
+  by_horizon n = range 2 4096 s.args.horizon ∷ by_budget n
 
-  abbrev byCap : ℕ → List Check
-  byCap n = range 1 4096 s.args.cap ∷ byHorizon n
+  abbrev by_cap : ℕ → List Check
+  by_cap n = range 1 4096 s.args.cap ∷ by_horizon n
 
   -- it is the model's
   whole : (l : Loop) → s.args.n ≡ size l
-      → first_refusal (byCap s.args.n) ≡ first_refusal (request_checks (record { cap = s.args.cap; horizon = s.args.horizon; budget = s.args.budget }) ++ room_checks l s.args.list s.args.rows)
+      → first_refusal (by_cap s.args.n) ≡ first_refusal (request_checks (record { cap = s.args.cap; horizon = s.args.horizon; budget = s.args.budget }) ++ room_checks l s.args.list s.args.rows)
   unfolding request_checks room_checks
   whole l e = rw e
 
@@ -45,14 +45,14 @@ returns-in_default : tie.Need-returns-in_default
 returns-in_default c l e =
     let k = c.before in
     let s = k.before in
-    refused_first (range 1 4096 s.args.cap ∷ []) (byHorizon s s.args.n) k.range-by_cap.ensures c.in_default.is ∙ whole s l e
+    refused_first (range 1 4096 s.args.cap ∷ []) (by_horizon s s.args.n) k.range-by_cap.ensures c.in_default.is ∙ whole s l e
 
 -- it passes
 abbrev at_cap : tie.In-Fine → tie.Start
 at_cap c = c.before.before
 
-cap_passes : (c : tie.In-Fine) → let s = at_cap c in first_refusal (byCap s s.args.n) ≡ first_refusal (byHorizon s s.args.n)
-cap_passes c = let s = at_cap c in rest_decides (range 1 4096 s.args.cap ∷ []) (byHorizon s s.args.n) c.range-by_cap.ensures c.in-Fine.is
+cap_passes : (c : tie.In-Fine) → let s = at_cap c in first_refusal (by_cap s s.args.n) ≡ first_refusal (by_horizon s s.args.n)
+cap_passes c = let s = at_cap c in rest_decides (range 1 4096 s.args.cap ∷ []) (by_horizon s s.args.n) c.range-by_cap.ensures c.in-Fine.is
 
 -- ---- the horizon
 
@@ -69,17 +69,17 @@ returns-in_default-by_horizon : tie.Need-returns-in_default-by_horizon
 returns-in_default-by_horizon c l e =
     let k = c.before in
     let s = at_cap k.before in
-    refused_first (range 2 4096 s.args.horizon ∷ []) (byBudget s s.args.n) k.range-by_horizon.ensures c.in_default-by_horizon.is ∙ sym (cap_passes k.before) ∙ whole s l e
+    refused_first (range 2 4096 s.args.horizon ∷ []) (by_budget s s.args.n) k.range-by_horizon.ensures c.in_default-by_horizon.is ∙ sym (cap_passes k.before) ∙ whole s l e
 
 -- it passes
-abbrev at-horizon : tie.In-Fine-by_horizon → tie.Start
-at-horizon c = at_cap c.before.before
+abbrev at_horizon : tie.In-Fine-by_horizon → tie.Start
+at_horizon c = at_cap c.before.before
 
-horizon_passes : (c : tie.In-Fine-by_horizon) → let s = at-horizon c in first_refusal (byCap s s.args.n) ≡ first_refusal (byBudget s s.args.n)
+horizon_passes : (c : tie.In-Fine-by_horizon) → let s = at_horizon c in first_refusal (by_cap s s.args.n) ≡ first_refusal (by_budget s s.args.n)
 horizon_passes c =
     let k = c.before in
-    let s = at-horizon c in
-    cap_passes k.before ∙ rest_decides (range 2 4096 s.args.horizon ∷ []) (byBudget s s.args.n) k.range-by_horizon.ensures c.in-Fine-by_horizon.is
+    let s = at_horizon c in
+    cap_passes k.before ∙ rest_decides (range 2 4096 s.args.horizon ∷ []) (by_budget s s.args.n) k.range-by_horizon.ensures c.in-Fine-by_horizon.is
 
 -- ---- the budget
 
@@ -95,18 +95,18 @@ enum_told-in_default-by_budget c = omega arith
 returns-in_default-by_budget : tie.Need-returns-in_default-by_budget
 returns-in_default-by_budget c l e =
     let k = c.before in
-    let s = at-horizon k.before in
-    refused_first (range 3 1000000 s.args.budget ∷ []) (byList s s.args.n) k.range-by_budget.ensures c.in_default-by_budget.is ∙ sym (horizon_passes k.before) ∙ whole s l e
+    let s = at_horizon k.before in
+    refused_first (range 3 1000000 s.args.budget ∷ []) (by_list s s.args.n) k.range-by_budget.ensures c.in_default-by_budget.is ∙ sym (horizon_passes k.before) ∙ whole s l e
 
 -- it passes
-abbrev at-budget : tie.In-Fine-by_budget → tie.Start
-at-budget c = at-horizon c.before.before
+abbrev at_budget : tie.In-Fine-by_budget → tie.Start
+at_budget c = at_horizon c.before.before
 
-budget_passes : (c : tie.In-Fine-by_budget) → let s = at-budget c in first_refusal (byCap s s.args.n) ≡ first_refusal (byList s s.args.n)
+budget_passes : (c : tie.In-Fine-by_budget) → let s = at_budget c in first_refusal (by_cap s s.args.n) ≡ first_refusal (by_list s s.args.n)
 budget_passes c =
     let k = c.before in
-    let s = at-budget c in
-    horizon_passes k.before ∙ rest_decides (range 3 1000000 s.args.budget ∷ []) (byList s s.args.n) k.range-by_budget.ensures c.in-Fine-by_budget.is
+    let s = at_budget c in
+    horizon_passes k.before ∙ rest_decides (range 3 1000000 s.args.budget ∷ []) (by_list s s.args.n) k.range-by_budget.ensures c.in-Fine-by_budget.is
 
 -- ---- the list, then the table
 
@@ -122,7 +122,7 @@ enum_told-in_default-by_list c = omega arith
 returns-in_default-by_list : tie.Need-returns-in_default-by_list
 returns-in_default-by_list c l e =
     let k = c.before in
-    let s = at-budget k.before in
+    let s = at_budget k.before in
     refused_first (lent s.args.n s.args.list ∷ []) (lent 4096 s.args.rows ∷ []) k.lent-by_list.ensures c.in_default-by_list.is ∙ sym (budget_passes k.before) ∙ whole s l e
 
 lent-requires : tie.Need-lent-requires
@@ -132,7 +132,7 @@ returns : tie.Need-returns
 returns c l e =
     let t = c.before in
     let k = t.before in
-    let s = at-budget k.before in
+    let s = at_budget k.before in
     c.lent.ensures
     ∙ sym (budget_passes k.before ∙ rest_decides (lent s.args.n s.args.list ∷ []) (lent 4096 s.args.rows ∷ []) k.lent-by_list.ensures t.in-Fine-by_list.is)
     ∙ whole s l e

@@ -46,20 +46,20 @@ known : (c : tie.In-Accepted) → IsAccepted (file c) c.in-Accepted.n c.in-Accep
 known c = read_accepted _ _ _ _ (sym (ap reading_of c.in-Accepted.is) ∙ c.read-reading.ensures)
 
 -- the checks that are left, for n operations: of the list, and before it of the interval
-abbrev byList : tie.In-Accepted → ℕ → List Check
-byList c n = let a = (start c).args in lent n (length a.starts.now) ∷ late_start a.starts.now n ∷ []
+abbrev by_list : tie.In-Accepted → ℕ → List Check
+by_list c n = let a = (start c).args in lent n (length a.starts.now) ∷ late_start a.starts.now n ∷ []
 
-abbrev byInterval : tie.In-Accepted → ℕ → List Check
-byInterval c n = range 1 4096 (start c).args.interval ∷ byList c n
+abbrev by_interval : tie.In-Accepted → ℕ → List Check
+by_interval c n = range 1 4096 (start c).args.interval ∷ by_list c n
 
 -- the number of operations as it was read
 abbrev ops : tie.In-Accepted → ℕ
 ops c = c.in-Accepted.n
 
 -- they decide
-accepted_decides : (c : tie.In-Accepted) → let a = (start c).args in first_refusal (proposed_checks a.file.now a.interval a.starts.now) ≡ first_refusal (byInterval c (ops c))
+accepted_decides : (c : tie.In-Accepted) → let a = (start c).args in first_refusal (proposed_checks a.file.now a.interval a.starts.now) ≡ first_refusal (by_interval c (ops c))
 unfolding proposed_checks proposal_checks
-accepted_decides c = let a = (start c).args in refusal_append (file_checks (file c)) (proposal_checks (loop_of (file c)) a.interval a.starts.now) (known c).file ∙ ap (λ (n : ℕ). first_refusal (byInterval c n)) (sym (known c).ops_are)
+accepted_decides c = let a = (start c).args in refusal_append (file_checks (file c)) (proposal_checks (loop_of (file c)) a.interval a.starts.now) (known c).file ∙ ap (λ (n : ℕ). first_refusal (by_interval c n)) (sym (known c).ops_are)
 
 range-by_interval-requires : tie.Need-range-by_interval-requires
 range-by_interval-requires c κs = omega arith
@@ -74,17 +74,17 @@ returns-in_default-by_interval : tie.Need-returns-in_default-by_interval
 returns-in_default-by_interval c =
     let r = c.before in
     let k = r.before in
-    refused_first (range 1 4096 (start k).args.interval ∷ []) (byList k (ops k)) r.range-by_interval.ensures c.in_default-by_interval.is ∙ sym (accepted_decides k)
+    refused_first (range 1 4096 (start k).args.interval ∷ []) (by_list k (ops k)) r.range-by_interval.ensures c.in_default-by_interval.is ∙ sym (accepted_decides k)
 
 -- ---- once the interval passes
 
 interval_decides : (c : tie.In-Fine) → let k = c.before.before in
     let a = (start k).args in
-    first_refusal (proposed_checks a.file.now a.interval a.starts.now) ≡ first_refusal (byList k (ops k))
+    first_refusal (proposed_checks a.file.now a.interval a.starts.now) ≡ first_refusal (by_list k (ops k))
 interval_decides c =
     let r = c.before in
     let k = r.before in
-    accepted_decides k ∙ rest_decides (range 1 4096 (start k).args.interval ∷ []) (byList k (ops k)) r.range-by_interval.ensures c.in-Fine.is
+    accepted_decides k ∙ rest_decides (range 1 4096 (start k).args.interval ∷ []) (by_list k (ops k)) r.range-by_interval.ensures c.in-Fine.is
 
 lent-by_list-requires : tie.Need-lent-by_list-requires
 lent-by_list-requires c κs = omega arith

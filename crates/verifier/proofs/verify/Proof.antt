@@ -105,11 +105,11 @@ returns-in_default-pair c =
 
 -- ---- where a pair conflicts
 
-abbrev pair-at : tie.In-At → tie.After-first_pair-pair
-pair-at c = c.before
+abbrev pair_at : tie.In-At → tie.After-first_pair-pair
+pair_at c = c.before
 
 abbrev after : tie.In-At → tie.In-Fine
-after c = (pair-at c).before.before.before
+after c = (pair_at c).before.before.before
 
 -- its two operations
 abbrev one : tie.In-At → ℕ
@@ -119,7 +119,7 @@ abbrev other : tie.In-At → ℕ
 other c = c.in-At.b
 
 found : (c : tie.In-At) → let k = (after c).before in first_pair (loop_of (file k)) (start k).args.interval (list k) ≡ some (one c, other c)
-found c = sym (pair-at c).first_pair-pair.ensures ∙ ap pair_of c.in-At.is
+found c = sym (pair_at c).first_pair-pair.ensures ∙ ap pair_of c.in-At.is
 
 is_pair : (c : tie.In-At) → let k = (after c).before in PairFound (loop_of (file k)) (start k).args.interval (list k) (one c) (other c)
 is_pair c = let k = (after c).before in pair_found (loop_of (file k)) (start k).args.interval (list k) (one c) (other c) (found c)
@@ -145,7 +145,7 @@ returns c =
     let k = (after w).before in
     ap (λ (n : ℕ). answered (clash (one w) (other w) n)) c.number.ensures
     ∙ conflict_says (one w) (other w) p.place_of-place.result (pair_place (loop_of (file k)) (start k).args.interval (list k) (one w, other w)) p.place_of-place.ensures
-    ∙ by_found (after w) none (some (one w, other w)) (none_broken (pair-at w).before) (found w)
+    ∙ by_found (after w) none (some (one w, other w)) (none_broken (pair_at w).before) (found w)
 
 pub verify_spec : {M : Type 1} → statement M
 verify_spec =

@@ -1,5 +1,5 @@
 -- `timing::longest` meets its contract. The loop's invariant: `most` is the longest of the first j uses. Assumes nothing.
-use mathlib.Core.Path.{◌≡◌, refl, sym, ap, ◌∙◌}
+use mathlib.Core.Path.{◌≡◌, ap, ◌∙◌}
 use Prim.Native.Nat.{ℕ, ◌+◌, ◌-◌, ◌≤◌}
 use native.Mathlib.Nat.{zero-add}
 use native.Mathlib.Omega.{arith}
@@ -64,9 +64,9 @@ loop-j-preserved c =
     let p = op_at (loop_of f) s.args.op in
     let turn : c.duration.result ≡ (use_at p j).duration = c.duration.ensures ∙ ap (λ (u : Use). u.duration) (here c.before.before).is in
     let next : max_of (λ k. (use_at p k).duration) (up_from 0 (j + 1)) ≡ _ = max_next (λ k. (use_at p k).duration) 0 j in
-    let zero-j : (use_at p (0 + j)).duration ≡ (use_at p j).duration = ap (λ (k : ℕ). (use_at p k).duration) (zero-add j) in
+    let zero_j : (use_at p (0 + j)).duration ≡ (use_at p j).duration = ap (λ (k : ℕ). (use_at p k).duration) (zero-add j) in
     let short = (((accepted_ok f s.requires.0).op_ok s.args.op s.requires.1).each j (omega (arith, c.use_count-n.ensures))).ends in
-    (omega arith, omega (arith, c.larger-most.ensures, turn, next, zero-j, c.loop-j.invariant.1), omega (arith, c.larger-most.ensures, turn, short, c.loop-j.invariant.2))
+    (omega arith, omega (arith, c.larger-most.ensures, turn, next, zero_j, c.loop-j.invariant.1), omega (arith, c.larger-most.ensures, turn, short, c.loop-j.invariant.2))
 
 returns : tie.Need-returns invariant-loop-j decreases-loop-j
 returns c =

@@ -1,6 +1,5 @@
 -- `timing::suits` meets its contract, return by return. Assumes nothing.
 use mathlib.Core.Path.{sym, ◌∙◌}
-use borrow.Author.Tests.{not-true, not-false}
 use Rattle.model.proofs.Lists.{true_false}
 use Rattle.iterative.proofs.timing.suits.Statement.{statement}
 use Rattle.iterative.proofs.timing.suits.Tie as tie

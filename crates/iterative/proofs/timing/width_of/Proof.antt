@@ -1,6 +1,5 @@
 -- `timing::width_of` meets its contract. Assumes nothing.
-use mathlib.Core.Bool.{cond}
-use mathlib.Core.Path.{◌≡◌, refl}
+use mathlib.Core.Path.{refl}
 use native.Mathlib.Omega.{arith}
 use Rattle.iterative.proofs.timing.width_of.Statement.{statement}
 use Rattle.iterative.proofs.timing.width_of.Tie as tie

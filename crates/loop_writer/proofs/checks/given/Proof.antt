@@ -35,12 +35,12 @@ returns-in_default c =
     refused_first (size_checks oper (length d.ops)) (after_op_size d) k.size-by_ops.ensures c.in_default.is ∙ whole d
 
 -- it is right
-abbrev at-ops : tie.In-Fine → tie.Start
-at-ops c = c.before.before
+abbrev at_ops : tie.In-Fine → tie.Start
+at_ops c = c.before.before
 
-ops_pass : (c : tie.In-Fine) → let d = lists (at-ops c) in first_refusal (given_checks d) ≡ first_refusal (after_op_size d)
+ops_pass : (c : tie.In-Fine) → let d = lists (at_ops c) in first_refusal (given_checks d) ≡ first_refusal (after_op_size d)
 ops_pass c =
-    let d = lists (at-ops c) in
+    let d = lists (at_ops c) in
     sym (whole d) ∙ rest_decides (size_checks oper (length d.ops)) (after_op_size d) c.size-by_ops.ensures c.in-Fine.is
 
 -- ---- the number of dependences
@@ -57,23 +57,23 @@ enum_told-in_default-by_deps c = omega arith
 returns-in_default-by_deps : tie.Need-returns-in_default-by_deps
 returns-in_default-by_deps c =
     let k = c.before in
-    let d = lists (at-ops k.before) in
+    let d = lists (at_ops k.before) in
     refused_first (size_checks deps (length d.deps)) (after_sizes d) k.size-by_deps.ensures c.in_default-by_deps.is ∙ sym (ops_pass k.before)
 
 -- it is right
-abbrev at-deps : tie.In-Fine-by_deps → tie.In-Fine
-at-deps c = c.before.before
+abbrev at_deps : tie.In-Fine-by_deps → tie.In-Fine
+at_deps c = c.before.before
 
-deps_pass : (c : tie.In-Fine-by_deps) → let d = lists (at-ops (at-deps c)) in first_refusal (given_checks d) ≡ first_refusal (after_sizes d)
+deps_pass : (c : tie.In-Fine-by_deps) → let d = lists (at_ops (at_deps c)) in first_refusal (given_checks d) ≡ first_refusal (after_sizes d)
 deps_pass c =
-    let d = lists (at-ops (at-deps c)) in
-    ops_pass (at-deps c) ∙ rest_decides (size_checks deps (length d.deps)) (after_sizes d) c.size-by_deps.ensures c.in-Fine-by_deps.is
+    let d = lists (at_ops (at_deps c)) in
+    ops_pass (at_deps c) ∙ rest_decides (size_checks deps (length d.deps)) (after_sizes d) c.size-by_deps.ensures c.in-Fine-by_deps.is
 
 -- so there are 1 to 64 operations
-few : (c : tie.In-Fine-by_deps) → let n = op_total (lists (at-ops (at-deps c))) in (1 ≤ n) × (n ≤ 64)
+few : (c : tie.In-Fine-by_deps) → let n = op_total (lists (at_ops (at_deps c))) in (1 ≤ n) × (n ≤ 64)
 few c =
-    let t = at-deps c in
-    size_range oper (length (lists (at-ops t)).ops) (fine_passes (size_checks oper (length (lists (at-ops t)).ops)) t.in-Fine.is t.size-by_ops.ensures)
+    let t = at_deps c in
+    size_range oper (length (lists (at_ops t)).ops) (fine_passes (size_checks oper (length (lists (at_ops t)).ops)) t.in-Fine.is t.size-by_ops.ensures)
 
 -- ---- the operations
 
@@ -89,26 +89,26 @@ enum_told-in_default-each_op c = omega arith
 returns-in_default-each_op : tie.Need-returns-in_default-each_op
 returns-in_default-each_op c =
     let k = c.before in
-    let d = lists (at-ops (at-deps k.before)) in
+    let d = lists (at_ops (at_deps k.before)) in
     refused_first (ops_table d) (after_ops d) k.op_list-each_op.ensures c.in_default-each_op.is ∙ sym (deps_pass k.before)
 
 -- they are right
-abbrev at-list : tie.In-Fine-each_op → tie.In-Fine-by_deps
-at-list c = c.before.before
+abbrev at_list : tie.In-Fine-each_op → tie.In-Fine-by_deps
+at_list c = c.before.before
 
 abbrev all : tie.In-Fine-each_op → Fields
-all c = lists (at-ops (at-deps (at-list c)))
+all c = lists (at_ops (at_deps (at_list c)))
 
 table_pass : (c : tie.In-Fine-each_op) → first_refusal (given_checks (all c)) ≡ first_refusal (after_ops (all c))
-table_pass c = deps_pass (at-list c) ∙ rest_decides (ops_table (all c)) (after_ops (all c)) c.op_list-each_op.ensures c.in-Fine-each_op.is
+table_pass c = deps_pass (at_list c) ∙ rest_decides (ops_table (all c)) (after_ops (all c)) c.op_list-each_op.ensures c.in-Fine-each_op.is
 
 -- ---- the number of uses
 
 all_uses-requires : tie.Need-all_uses-requires
-all_uses-requires c κs = (omega arith, (few (at-list c)).1, fine_passes (ops_table (all c)) c.in-Fine-each_op.is c.op_list-each_op.ensures)
+all_uses-requires c κs = (omega arith, (few (at_list c)).1, fine_passes (ops_table (all c)) c.in-Fine-each_op.is c.op_list-each_op.ensures)
 
 overflow_mul-all_uses : tie.Need-overflow_mul-all_uses
-overflow_mul-all_uses c = omega (arith, (few (at-list c.before)).1, c.all_uses.ensures.1)
+overflow_mul-all_uses c = omega (arith, (few (at_list c.before)).1, c.all_uses.ensures.1)
 
 -- twice what the operations say
 twice : (c : tie.After-all_uses) → use_width * c.all_uses.result ≡ use_width * first_given (all c.before).ops (op_total (all c.before))
@@ -147,7 +147,7 @@ returns-in_default-each_use c =
 -- ---- the dependences
 
 dep_list-requires : tie.Need-dep_list-requires
-dep_list-requires c κs = let w = few (at-list c.before.before.before.before) in (omega arith, w.0, w.1)
+dep_list-requires c κs = let w = few (at_list c.before.before.before.before) in (omega arith, w.0, w.1)
 
 returns : tie.Need-returns
 returns c =

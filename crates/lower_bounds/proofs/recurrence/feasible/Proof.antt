@@ -5,7 +5,6 @@ use mathlib.Core.Bool.{true≢false}
 use mathlib.Core.Logic.{◌⊎◌, inl, ⊎_elim}
 use Prim.Native.Nat.{◌-◌, ◌<◌}
 use native.Mathlib.Omega.{arith}
-use borrow.Author.Tests.{not-true, not-false}
 use Rattle.model.specs.Loop.{LoopOk, size}
 use Rattle.model.specs.File.{loop_of}
 use Rattle.model.proofs.File.{accepted_ok}

@@ -1,7 +1,6 @@
 -- `recurrence::recurrence` meets its contract: no interval below `lo` can be met, and `hi` can. The measure is the length of the range. Assumes nothing.
 use Prim.Native.Nat.{◌-◌}
 use native.Mathlib.Omega.{arith}
-use borrow.Author.Tests.{not-true, not-false}
 use Rattle.model.specs.Loop.{LoopOk}
 use Rattle.model.specs.File.{loop_of}
 use Rattle.model.proofs.File.{accepted_ok}

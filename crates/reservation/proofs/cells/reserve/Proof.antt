@@ -34,8 +34,8 @@ abbrev entry : tie.In-loop-j invariant-loop-j decreases-loop-j → tie.Start inv
 entry c = c.before.before.before.before.before
 
 -- the use whose turn it is
-abbrev now-use : tie.In-loop-j invariant-loop-j decreases-loop-j → Use
-now-use c = use_at (op_at (loop_of (entry c).args.file.now) (entry c).args.op) c.loop-j.j
+abbrev now_use : tie.In-loop-j invariant-loop-j decreases-loop-j → Use
+now_use c = use_at (op_at (loop_of (entry c).args.file.now) (entry c).args.op) c.loop-j.j
 
 here : (c : tie.In-loop-j invariant-loop-j decreases-loop-j)
     → UseHere (entry c).args.file.now (entry c).args.op c.loop-j.j ((entry c).args.first + c.loop-j.j)
@@ -50,7 +50,7 @@ offset-requires : tie.Need-offset-requires invariant-loop-j decreases-loop-j
 offset-requires c κs = ((entry c.before).requires.0, (here c.before).inside)
 
 -- what is read of it
-offset_is : (c : tie.After-offset invariant-loop-j decreases-loop-j) → c.offset.result ≡ (now-use c.before.before).offset
+offset_is : (c : tie.After-offset invariant-loop-j decreases-loop-j) → c.offset.result ≡ (now_use c.before.before).offset
 offset_is c = c.offset.ensures ∙ ap (λ (u : Use). u.offset) (here c.before.before).is
 
 overflow_add-start : tie.Need-overflow_add-start invariant-loop-j decreases-loop-j
@@ -65,10 +65,10 @@ duration-requires c κs = ((entry c.before.before).requires.0, (here c.before.be
 slot-requires : tie.Need-slot-requires invariant-loop-j decreases-loop-j
 slot-requires c κs = ((entry c.before.before.before).requires.0, (here c.before.before.before).inside)
 
-duration_is : (c : tie.After-slot invariant-loop-j decreases-loop-j) → c.duration.result ≡ (now-use c.before.before.before.before).duration
+duration_is : (c : tie.After-slot invariant-loop-j decreases-loop-j) → c.duration.result ≡ (now_use c.before.before.before.before).duration
 duration_is c = c.duration.ensures ∙ ap (λ (u : Use). u.duration) (here c.before.before.before.before).is
 
-slot_is : (c : tie.After-slot invariant-loop-j decreases-loop-j) → c.slot.result ≡ (now-use c.before.before.before.before).slot
+slot_is : (c : tie.After-slot invariant-loop-j decreases-loop-j) → c.slot.result ≡ (now_use c.before.before.before.before).slot
 slot_is c = c.slot.ensures ∙ ap (λ (u : Use). u.slot) (here c.before.before.before.before).is
 
 reserve_use-requires : tie.Need-reserve_use-requires invariant-loop-j decreases-loop-j

@@ -5,7 +5,6 @@ use Prim.Native.Nat.{◌+◌}
 use native.Mathlib.Nat.{mod-lt}
 use lib.ListN.{get_or}
 use borrow.Author.Rules.{rules}
-use borrow.Author.Tests.{not-true, not-false}
 use Rattle.model.specs.Loop.{Use, no_use, op_at, all_uses}
 use Rattle.model.specs.File.{loop_of}
 use Rattle.model.specs.Legality.{covers}
@@ -13,8 +12,8 @@ use Rattle.reservation.proofs.Overlaps.{shared_cell}
 use Rattle.reservation.proofs.pairs.shares.Statement.{statement}
 use Rattle.reservation.proofs.pairs.shares.Tie as tie
 
-abbrev use-of : tie.Start → Use
-use-of s = get_or (all_uses (loop_of s.args.file.now)) s.args.u no_use
+abbrev use_of : tie.Start → Use
+use_of s = get_or (all_uses (loop_of s.args.file.now)) s.args.u no_use
 
 abbrev start : tie.After-covers_cycle → tie.Start
 start c = c.before.before
@@ -26,7 +25,7 @@ returns-then-not-covers_cycle : tie.Need-returns-then-not-covers_cycle
 returns-then-not-covers_cycle c = let t = c.before in rw (sym t.covers_cycle.ensures ∙ c.if-not-covers_cycle.true)
 
 -- past the test the use covers the cycle
-covered : (c : tie.Else-not-covers_cycle) → let s = start c.before in covers s.args.k (use-of s) ≡ true
+covered : (c : tie.Else-not-covers_cycle) → let s = start c.before in covers s.args.k (use_of s) ≡ true
 covered c = let t = c.before in sym t.covers_cycle.ensures ∙ c.if-not-covers_cycle.false
 
 slot-requires : tie.Need-slot-requires
@@ -49,7 +48,7 @@ returns c =
     let e = c.before.before in
     let s = start e.before in
     let a = s.args in
-    (rw c.slot.ensures at c.covers.ensures) ∙ sym (shared_cell a.interval a.from a.to a.k (op_at (loop_of a.file.now) a.a) (use-of s) (covered e))
+    (rw c.slot.ensures at c.covers.ensures) ∙ sym (shared_cell a.interval a.from a.to a.k (op_at (loop_of a.file.now) a.a) (use_of s) (covered e))
 
 pub shares_spec : {M : Type 1} → statement M
 shares_spec =

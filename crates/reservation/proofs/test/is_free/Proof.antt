@@ -1,6 +1,5 @@
 -- `test::is_free` meets its contract, return by return. Assumes nothing.
 use mathlib.Core.Path.{sym}
-use native.Mathlib.Omega.{arith}
 use Rattle.model.proofs.Lists.{true_false}
 use Rattle.reservation.proofs.TakenCells.{free_place, taken_place}
 use Rattle.reservation.proofs.test.is_free.Statement.{statement}

@@ -7,7 +7,7 @@ use lib.Bits.{and_mask}
 use lib.Dec.{eqb, leb, ltb}
 use lib.ListN.{get_or}
 use borrow.Author.Rules.{rules}
-use borrow.Author.Tests.{not-true, not-false, leb-true, ltb-true}
+use borrow.Author.Tests.{leb-true, ltb-true}
 use Rattle.model.specs.Loop.{Use, UseOk, no_use, all_uses}
 use Rattle.model.specs.File.{loop_of}
 use Rattle.model.specs.Legality.{covers}
@@ -19,10 +19,10 @@ use Rattle.reservation.proofs.TakenCells.{use_self, use_bit}
 use Rattle.reservation.proofs.test.taken.Statement.{statement}
 use Rattle.reservation.proofs.test.taken.Tie as tie
 
-abbrev use-of : tie.Start → Use
-use-of s = get_or (all_uses (loop_of s.args.file.now)) s.args.u no_use
+abbrev use_of : tie.Start → Use
+use_of s = get_or (all_uses (loop_of s.args.file.now)) s.args.u no_use
 
-use_ok : (s : tie.Start) → UseOk (use-of s)
+use_ok : (s : tie.Start) → UseOk (use_of s)
 use_ok s = let f = s.args.file.now in all_ok (loop_of f) (accepted_ok f s.requires.0) s.args.u s.requires.1
 
 abbrev start : tie.After-covers_cycle → tie.Start
@@ -35,11 +35,11 @@ returns-then-not-covers_cycle : tie.Need-returns-then-not-covers_cycle
 returns-then-not-covers_cycle c = let t = c.before in rw (sym t.covers_cycle.ensures ∙ c.if-not-covers_cycle.true)
 
 -- past the first test the use covers the cycle
-covered : (c : tie.Else-not-covers_cycle) → let s = start c.before in ((use-of s).offset ≤ s.args.k) × (s.args.k < (use-of s).offset + (use-of s).duration)
+covered : (c : tie.Else-not-covers_cycle) → let s = start c.before in ((use_of s).offset ≤ s.args.k) × (s.args.k < (use_of s).offset + (use_of s).duration)
 covered c =
     let t = c.before in
     let s = start t in
-    let u = use-of s in
+    let u = use_of s in
     let e : covers s.args.k u ≡ true = sym t.covers_cycle.ensures ∙ c.if-not-covers_cycle.false in
     let begun = leb u.offset s.args.k in
     let going = ltb s.args.k (u.offset + u.duration) in
@@ -56,7 +56,7 @@ returns-then-offset-interval c =
     let o = c.before in
     let s = start o.before.before in
     let h = covered o.before in
-    sym (use_self row_base s.args.interval s.args.row s.args.k (use-of s) h.0 h.1 (omega (arith, o.offset.ensures)))
+    sym (use_self row_base s.args.interval s.args.row s.args.k (use_of s) h.0 h.1 (omega (arith, o.offset.ensures)))
 
 slot-requires : tie.Need-slot-requires
 slot-requires c κs = search rules
@@ -79,7 +79,7 @@ returns c =
     let h = covered (far c).before in
     ap (λ (x : ℕ). eqb x 1) (and_mask (s.args.row / 2 ^ (c.slot.result - 1)) 1)
     ∙ ap (λ (x : ℕ). eqb (digit_of row_base s.args.row x) 1) c.slot.ensures
-    ∙ sym (use_bit row_base s.args.interval s.args.row s.args.k (use-of s) h.0 h.1 (omega (arith, (far c).offset.ensures)))
+    ∙ sym (use_bit row_base s.args.interval s.args.row s.args.k (use_of s) h.0 h.1 (omega (arith, (far c).offset.ensures)))
 
 pub taken_spec : {M : Type 1} → statement M
 taken_spec =

@@ -44,8 +44,8 @@ abbrev uses : tie.At-loop-j invariant-loop-j decreases-loop-j → List Use
 uses c = (op_at (loop_of (start c).args.file.now) (start c).args.op).uses
 
 -- the use whose turn it is
-abbrev now-use : tie.At-loop-j invariant-loop-j decreases-loop-j → Use
-now-use c = use_at (op_at (loop_of (start c).args.file.now) (start c).args.op) c.loop-j.j
+abbrev now_use : tie.At-loop-j invariant-loop-j decreases-loop-j → Use
+now_use c = use_at (op_at (loop_of (start c).args.file.now) (start c).args.op) c.loop-j.j
 
 here : (c : tie.In-loop-j invariant-loop-j decreases-loop-j)
     → let h = c.before in UseHere (start h).args.file.now (start h).args.op h.loop-j.j ((start h).args.first + h.loop-j.j)
@@ -72,7 +72,7 @@ abbrev test : tie.At-loop-j invariant-loop-j decreases-loop-j → Use → Bool
 test c = let a = (start c).args in met_by row_base a.interval a.row a.k
 
 -- the call says it of use j
-told : (c : tie.After-taken invariant-loop-j decreases-loop-j) → let h = c.before.before in c.taken.result ≡ test h (now-use h)
+told : (c : tie.After-taken invariant-loop-j decreases-loop-j) → let h = c.before.before in c.taken.result ≡ test h (now_use h)
 told c = c.taken.ensures ∙ ap (test c.before.before) (here c.before).is
 
 returns-then-taken : tie.Need-returns-then-taken invariant-loop-j decreases-loop-j
@@ -95,7 +95,7 @@ turn c = c.before.before.before.before
 
 -- the end of use j
 end_is : (c : tie.After-duration invariant-loop-j decreases-loop-j)
-    → let u = now-use (turn c).before in c.offset.result + c.duration.result ≡ u.offset + u.duration
+    → let u = now_use (turn c).before in c.offset.result + c.duration.result ≡ u.offset + u.duration
 end_is c =
     let e = (here (turn c)).is in
     ap₂ (λ (x y : ℕ). x + y) (c.offset.ensures ∙ ap (λ (u : Use). u.offset) e) (c.duration.ensures ∙ ap (λ (u : Use). u.duration) e)

@@ -15,11 +15,11 @@ use Rattle.session.proofs.checks.openable.Tie as tie
 
 -- the checks after the reader's, and what is left of them after the interval
 module _ (s : tie.Start) where
-  abbrev byHorizon : List Check
-  byHorizon = range 2 4096 s.args.horizon ∷ lent s.args.interval s.args.rows ∷ []
+  abbrev by_horizon : List Check
+  by_horizon = range 2 4096 s.args.horizon ∷ lent s.args.interval s.args.rows ∷ []
 
-  abbrev byInterval : List Check
-  byInterval = range 1 4096 s.args.interval ∷ byHorizon
+  abbrev by_interval : List Check
+  by_interval = range 1 4096 s.args.interval ∷ by_horizon
 
 read-reading-requires : tie.Need-read-reading-requires
 read-reading-requires c κs = omega arith
@@ -36,18 +36,18 @@ unread-requires c κs = omega arith
 returns-in_default : tie.Need-returns-in_default
 unfolding open_checks
 returns-in_default c =
-    ap refusal_of c.unread.ensures ∙ unread_first c.args.file.now (byInterval c.before.before.before.before) c.read-reading.ensures c.in_default.is
+    ap refusal_of c.unread.ensures ∙ unread_first c.args.file.now (by_interval c.before.before.before.before) c.read-reading.ensures c.in_default.is
 
 -- ---- once the file is accepted
 
 abbrev start : tie.In-Accepted → tie.Start
 start c = c.before.before.before
 
-accepted_decides : (c : tie.In-Accepted) → let a = (start c).args in first_refusal (open_checks a.file.now a.interval a.horizon a.rows) ≡ first_refusal (byInterval (start c))
+accepted_decides : (c : tie.In-Accepted) → let a = (start c).args in first_refusal (open_checks a.file.now a.interval a.horizon a.rows) ≡ first_refusal (by_interval (start c))
 unfolding open_checks
 accepted_decides c =
     let f = (start c).args.file.now in
-    refusal_append (file_checks f) (byInterval (start c)) (read_accepted f _ _ _ (sym (ap reading_of c.in-Accepted.is) ∙ c.read-reading.ensures)).file
+    refusal_append (file_checks f) (by_interval (start c)) (read_accepted f _ _ _ (sym (ap reading_of c.in-Accepted.is) ∙ c.read-reading.ensures)).file
 
 range-by_interval-requires : tie.Need-range-by_interval-requires
 range-by_interval-requires c κs = omega arith
@@ -61,15 +61,15 @@ enum_told-in_default-by_interval c = omega arith
 returns-in_default-by_interval : tie.Need-returns-in_default-by_interval
 returns-in_default-by_interval c =
     let s = start c.before.before in
-    refused_first (range 1 4096 s.args.interval ∷ []) (byHorizon s) c.range-by_interval.ensures c.in_default-by_interval.is ∙ sym (accepted_decides c.before.before)
+    refused_first (range 1 4096 s.args.interval ∷ []) (by_horizon s) c.range-by_interval.ensures c.in_default-by_interval.is ∙ sym (accepted_decides c.before.before)
 
 -- ---- once the interval passes
 
 interval_decides : (c : tie.In-Fine) → let s = start c.before.before in
-    first_refusal (open_checks s.args.file.now s.args.interval s.args.horizon s.args.rows) ≡ first_refusal (byHorizon s)
+    first_refusal (open_checks s.args.file.now s.args.interval s.args.horizon s.args.rows) ≡ first_refusal (by_horizon s)
 interval_decides c =
     let s = start c.before.before in
-    accepted_decides c.before.before ∙ rest_decides (range 1 4096 s.args.interval ∷ []) (byHorizon s) c.range-by_interval.ensures c.in-Fine.is
+    accepted_decides c.before.before ∙ rest_decides (range 1 4096 s.args.interval ∷ []) (by_horizon s) c.range-by_interval.ensures c.in-Fine.is
 
 range-by_horizon-requires : tie.Need-range-by_horizon-requires
 range-by_horizon-requires c κs = omega arith

@@ -54,10 +54,10 @@ decreases-pairs file interval starts n found₀ a₀ found a = n - a
 abbrev entry : tie.At-pairs invariant-loop-k decreases-loop-k invariant-loop-j decreases-loop-j invariant-loop-b decreases-loop-b invariant-pairs decreases-pairs → tie.Start invariant-loop-k decreases-loop-k invariant-loop-j decreases-loop-j invariant-loop-b decreases-loop-b invariant-pairs decreases-pairs
 entry c = c.before.before.before.before
 
-abbrev the-loop : tie.At-pairs invariant-loop-k decreases-loop-k invariant-loop-j decreases-loop-j invariant-loop-b decreases-loop-b invariant-pairs decreases-pairs → Loop
-the-loop c = loop_of (entry c).args.file.now
+abbrev the_loop : tie.At-pairs invariant-loop-k decreases-loop-k invariant-loop-j decreases-loop-j invariant-loop-b decreases-loop-b invariant-pairs decreases-pairs → Loop
+the_loop c = loop_of (entry c).args.file.now
 
-loop_ok : (c : tie.At-pairs invariant-loop-k decreases-loop-k invariant-loop-j decreases-loop-j invariant-loop-b decreases-loop-b invariant-pairs decreases-pairs) → LoopOk (the-loop c)
+loop_ok : (c : tie.At-pairs invariant-loop-k decreases-loop-k invariant-loop-j decreases-loop-j invariant-loop-b decreases-loop-b invariant-pairs decreases-pairs) → LoopOk (the_loop c)
 loop_ok c = accepted_ok (entry c).args.file.now (entry c).requires.0
 
 -- the turn of `pairs` in which the walk over b is, over uses, and over cycles
@@ -71,32 +71,32 @@ abbrev turn3 : tie.At-loop-k invariant-loop-k decreases-loop-k invariant-loop-j 
 turn3 c = turn2 c.before.before.before
 
 -- both operations are there
-first_in : (c : tie.In-pairs invariant-loop-k decreases-loop-k invariant-loop-j decreases-loop-j invariant-loop-b decreases-loop-b invariant-pairs decreases-pairs) → c.pairs.a < size (the-loop c.before)
+first_in : (c : tie.In-pairs invariant-loop-k decreases-loop-k invariant-loop-j decreases-loop-j invariant-loop-b decreases-loop-b invariant-pairs decreases-pairs) → c.pairs.a < size (the_loop c.before)
 first_in c = omega (arith, c.op_count-n.ensures)
 
-second_in : (c : tie.In-loop-b invariant-loop-k decreases-loop-k invariant-loop-j decreases-loop-j invariant-loop-b decreases-loop-b invariant-pairs decreases-pairs) → c.loop-b.b < size (the-loop (turn c.before).before)
+second_in : (c : tie.In-loop-b invariant-loop-k decreases-loop-k invariant-loop-j decreases-loop-j invariant-loop-b decreases-loop-b invariant-pairs decreases-pairs) → c.loop-b.b < size (the_loop (turn c.before).before)
 second_in c = omega (arith, (turn c.before).op_count-n.ensures)
 
 -- use j of operation a is there, and is read among all uses
-inside : (c : tie.In-loop-j invariant-loop-k decreases-loop-k invariant-loop-j decreases-loop-j invariant-loop-b decreases-loop-b invariant-pairs decreases-pairs) → c.loop-j.j < length (op_at (the-loop (turn2 c.before).before) (turn2 c.before).pairs.a).uses
+inside : (c : tie.In-loop-j invariant-loop-k decreases-loop-k invariant-loop-j decreases-loop-j invariant-loop-b decreases-loop-b invariant-pairs decreases-pairs) → c.loop-j.j < length (op_at (the_loop (turn2 c.before).before) (turn2 c.before).pairs.a).uses
 inside c = omega (arith, c.use_count-count.ensures)
 
-within : (c : tie.In-loop-j invariant-loop-k decreases-loop-k invariant-loop-j decreases-loop-j invariant-loop-b decreases-loop-b invariant-pairs decreases-pairs) → c.first_use-first.result + c.loop-j.j < length (all_uses (the-loop (turn2 c.before).before))
+within : (c : tie.In-loop-j invariant-loop-k decreases-loop-k invariant-loop-j decreases-loop-j invariant-loop-b decreases-loop-b invariant-pairs decreases-pairs) → c.first_use-first.result + c.loop-j.j < length (all_uses (the_loop (turn2 c.before).before))
 within c =
     let t = turn2 c.before in
-    omega (arith, c.first_use-first.ensures, inside c, use_within (the-loop t.before) t.pairs.a (first_in t))
+    omega (arith, c.first_use-first.ensures, inside c, use_within (the_loop t.before) t.pairs.a (first_in t))
 
 is_use : (c : tie.In-loop-j invariant-loop-k decreases-loop-k invariant-loop-j decreases-loop-j invariant-loop-b decreases-loop-b invariant-pairs decreases-pairs)
-    → get_or (all_uses (the-loop (turn2 c.before).before)) (c.first_use-first.result + c.loop-j.j) no_use
-    ≡ use_at (op_at (the-loop (turn2 c.before).before) (turn2 c.before).pairs.a) c.loop-j.j
+    → get_or (all_uses (the_loop (turn2 c.before).before)) (c.first_use-first.result + c.loop-j.j) no_use
+    ≡ use_at (op_at (the_loop (turn2 c.before).before) (turn2 c.before).pairs.a) c.loop-j.j
 is_use c =
     let t = turn2 c.before in
     let f = c.first_use-first in
-    own_use (the-loop t.before) t.pairs.a f.result c.loop-j.j (first_in t) f.ensures (inside c)
+    own_use (the_loop t.before) t.pairs.a f.result c.loop-j.j (first_in t) f.ensures (inside c)
 
 -- its duration, which is at most 16
 lasts : (c : tie.After-duration-d invariant-loop-k decreases-loop-k invariant-loop-j decreases-loop-j invariant-loop-b decreases-loop-b invariant-pairs decreases-pairs)
-    → c.duration-d.result ≡ (use_at (op_at (the-loop (turn2 c.before.before).before) (turn2 c.before.before).pairs.a) c.loop-j.j).duration
+    → c.duration-d.result ≡ (use_at (op_at (the_loop (turn2 c.before.before).before) (turn2 c.before.before).pairs.a) c.loop-j.j).duration
 lasts c = c.duration-d.ensures ∙ ap (λ (u : Use). u.duration) (is_use c.before)
 
 brief : (c : tie.After-duration-d invariant-loop-k decreases-loop-k invariant-loop-j decreases-loop-j invariant-loop-b decreases-loop-b invariant-pairs decreases-pairs) → c.duration-d.result ≤ 16
@@ -117,7 +117,7 @@ told c =
     let h = c.before.before.before.before in
     let p = (turn3 h).before in
     let s = entry p in
-    hit_read (the-loop p) s.args.interval s.args.starts.now p.pairs.a h.loop-b.b
+    hit_read (the_loop p) s.args.interval s.args.starts.now p.pairs.a h.loop-b.b
     h.loop-j.j h.loop-k.k (is_use h.before.before) c.meets.ensures
 
 -- ---- the needs
@@ -233,7 +233,7 @@ loop-b-preserved c =
       omega arith,
       c.loop-j.invariant.1,
       below_more _ q.loop-b.b q.loop-b.invariant.3 (λ l.
-          hits_none (the-loop p) (loop_ok p) s.args.interval s.args.starts.now s.requires.1 p.pairs.a q.loop-b.b l (second_in q)
+          hits_none (the_loop p) (loop_ok p) s.args.interval s.args.starts.now s.requires.1 p.pairs.a q.loop-b.b l (second_in q)
           (λ j m. c.loop-j.invariant.2 j (omega (arith, q.use_count-count.ensures)))),
     )
 
@@ -257,7 +257,7 @@ returns-after-pairs c =
     let p = c.before in
     let s = entry p in
     p.pairs.invariant.1
-    ∙ sym (walk_none (the-loop p) (loop_ok p) s.args.interval s.args.starts.now s.requires.1 (λ i l. p.pairs.invariant.2 i (omega (arith, p.op_count-n.ensures))))
+    ∙ sym (walk_none (the_loop p) (loop_ok p) s.args.interval s.args.starts.now s.requires.1 (λ i l. p.pairs.invariant.2 i (omega (arith, p.op_count-n.ensures))))
 
 returns-then-meets : tie.Need-returns-then-meets invariant-loop-k decreases-loop-k invariant-loop-j decreases-loop-j invariant-loop-b decreases-loop-b invariant-pairs decreases-pairs
 returns-then-meets c =
@@ -266,7 +266,7 @@ returns-then-meets c =
     let s = entry p in
     let q = h.before.before.before.before in
     let i = h.before.before in
-    sym (walk_found (the-loop p) (loop_ok p) s.args.interval s.args.starts.now s.requires.1 p.pairs.a q.loop-b.b i.loop-j.j h.loop-k.k
+    sym (walk_found (the_loop p) (loop_ok p) s.args.interval s.args.starts.now s.requires.1 p.pairs.a q.loop-b.b i.loop-j.j h.loop-k.k
     q.loop-b.invariant.0 (second_in q) (inside i) (omega (arith, lasts h.before)) (told c.before ∙ c.if-meets.true) p.pairs.invariant.2 q.loop-b.invariant.3)
 
 pub first_pair_spec : {M : Type 1} → statement M
