@@ -1,8 +1,7 @@
 /* The C functions of the Mwelitunga library: loop files read, written, bounded, scheduled and verified, and sessions replayed.
  *
  * Link target/staticlib/libmwelitunga.a, which `bin/build-library` puts there once the library is proved
- * (x86-64 Linux, on a processor of level x86-64-v2 or above, which no call checks; of the C library it takes memcpy and memset).
- * docs/FORMAT.md describes the loop file.
+ * (x86-64 Linux; of the C library it takes memcpy and memset). docs/FORMAT.md describes the loop file.
  *
  * For every function:
  * - Any bytes, numbers and starts may be passed: what is out of range is refused, or has the result that the comment says.
