@@ -11,7 +11,7 @@ use Rattle.model.specs.Lists.{sum_of}
 use Rattle.model.specs.Loop.{Use, Op, Loop, no_use, no_op, size, op_at, use_at, all_uses, first_use_of, UseOk, OpOk, LoopOk}
 use Rattle.model.proofs.Lists.{sum_append}
 
--- use j of operation o is use firstUseOf o + j of all
+-- use j of operation o is use first_use_of l o + j of all
 pub use_among : (l : Loop) (o j : ℕ) → o < size l → j < length (op_at l o).uses → get_or (all_uses l) (first_use_of l o + j) no_use ≡ use_at (op_at l o) j
 unfolding all_uses first_use_of flat_map sum_of
 use_among l o j = go l.ops o

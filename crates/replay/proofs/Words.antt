@@ -15,6 +15,7 @@ use Rattle.model.specs.Legality.{Placing}
 use Rattle.model.specs.Session.{placed_in}
 use Rattle.model.specs.Session as model
 use Rattle.model.proofs.Lists.{length_tabulate, get_or_tabulate}
+pub use Rattle.model.proofs.Lists.{length_written, written_more}
 use Rattle.session.specs.View.{file_of, state_of, Valid}
 use Rattle.session.specs.declared.Session.{Session}
 use Rattle.board.proofs.Boards.{same_seats}

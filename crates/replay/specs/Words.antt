@@ -1,6 +1,6 @@
 -- An answer as numbers: what a C function returns and writes. Assumes nothing.
 use Rattle.std.specs.Prelude.{◌≡◌, List, [], ◌∷◌, ℕ}
-use Rattle.model.specs.Lists.{written}
+pub use Rattle.model.specs.Lists.{written}
 use Rattle.model.specs.Refusals.{Answer, answered, refused}
 
 -- what is returned: 0, or the refusal's number
