@@ -18,6 +18,7 @@ use Rattle.model.specs.Table.{row_base, IsTable, cells_of}
 use Rattle.model.specs.Session.{placed_in}
 use Rattle.model.proofs.Lists.{get_or_filled}
 use Rattle.model.proofs.File.{accepted_ok}
+use Rattle.model.proofs.Firsts.{get_or_within}
 use Rattle.model.proofs.StartLists.{set_places}
 use Rattle.model.proofs.Legality.{fits_conflict, SubPlacing}
 use Rattle.model.proofs.Counts.{legal_part, legal_nothing}
@@ -90,12 +91,12 @@ pub put_seats : (xs : List ℕ) (o x : ℕ) → o < length xs → (x ≡ 65535 �
 put_seats xs o x l n = set_places seat_of 65535 xs o x x l (seat_some x n)
 
 -- and one that has the start t in place o says the placing, with o at t, of the list with that place blank
-pub lift_seats : (xs : List ℕ) (o t : ℕ) → o < length xs → get_or xs o 65535 ≡ t → (t ≡ 65535 → ⊥) → seats xs ≡ place_at (seats (set xs o 65535)) o t
+lift_seats : (xs : List ℕ) (o t : ℕ) → o < length xs → get_or xs o 65535 ≡ t → (t ≡ 65535 → ⊥) → seats xs ≡ place_at (seats (set xs o 65535)) o t
 lift_seats xs o t l q n =
     ap seats (sym (set-set xs o 65535 t ∙ ap (set xs o) (sym q) ∙ set-get_or xs o 65535)) ∙ put_seats (set xs o 65535) o t (rw length-set l) n
 
 -- in which o is not placed
-pub lift_open : (xs : List ℕ) (o : ℕ) → o < length xs → seats (set xs o 65535) o ≡ none
+lift_open : (xs : List ℕ) (o : ℕ) → o < length xs → seats (set xs o 65535) o ≡ none
 lift_open xs o l = seat_none (get_or (set xs o 65535) o 65535) (get_or-set_same xs o 65535 65535 l)
 
 -- of a list whose first k places have had their turn, with one turn more; g says what stands in a place after its turn and before
@@ -119,11 +120,11 @@ pub part_seats : (ys xs : List ℕ) → Fewer ys xs → SubPlacing (seats ys) (s
 part_seats ys xs h = record { same = λ o t e. go o t e (h o) }
   where
     go : (o t : ℕ) → seats ys o ≡ some t → (get_or ys o 65535 ≡ 65535) ⊎ (get_or ys o 65535 ≡ get_or xs o 65535) → seats xs o ≡ some t
-    go o t e (inl q) = let y : none ≡ some t = sym (seat_none (get_or ys o 65535) q) ∙ e in let z : ◌≡◌ {A = ℕ} 0 1 = cc in absurd (omega arith)
+    go o t e (inl q) = cc (seat_none (get_or ys o 65535) q)
     go o t e (inr q) = ap seat_of (sym q) ∙ e
 
 -- fewer operations are as sane
-pub part_sane : {l : Loop} {ii h : ℕ} {xs : List ℕ} (ys : List ℕ) → LoopOk l → 1 ≤ ii → Sane l ii h xs → length ys ≡ 64 → Fewer ys xs → Sane l ii h ys
+part_sane : {l : Loop} {ii h : ℕ} {xs : List ℕ} (ys : List ℕ) → LoopOk l → 1 ≤ ii → Sane l ii h xs → length ys ≡ 64 → Fewer ys xs → Sane l ii h ys
 part_sane {l} {ii} {h} {xs} ys ok pos s whole fewer =
     let p : SubPlacing (seats ys) (seats xs) = part_seats ys xs fewer in
     record {
@@ -138,7 +139,7 @@ part_sane {l} {ii} {h} {xs} ys ok pos s whole fewer =
     pick o b (inr q) = q ∙ b
 
 -- a number made blank
-pub lift_fewer : (xs : List ℕ) (o : ℕ) → Fewer (set xs o 65535) xs
+lift_fewer : (xs : List ℕ) (o : ℕ) → Fewer (set xs o 65535) xs
 lift_fewer xs o p = go (ℕ_discrete p o) (dec_lt o (length xs))
   where
     go : Dec (p ≡ o) → Dec (o < length xs) → (get_or (set xs o 65535) p 65535 ≡ 65535) ⊎ (get_or (set xs o 65535) p 65535 ≡ get_or xs p 65535)
@@ -168,11 +169,19 @@ empty_board {f} {ii} {h} rows accepted numbers room clear = record {
     nowhere o = ap seat_of (get_or_filled 64 o 65535)
 
     never : (t : ℕ) → ◌≡◌ {A = Option ℕ} none (some t) → t < h
-    never t q = let y : ◌≡◌ {A = ℕ} 0 1 = cc in absurd (omega arith)
+    never t q = let n : ⊥ = cc in absurd n
 
 -- there is a place for each operation
 pub board_inside : {f : List ℕ} {ii h : ℕ} {xs rows : List ℕ} (o : ℕ) → Board f ii h xs rows → o < size (loop_of f) → o < length xs
 board_inside {f} o b m = omega (arith, few_operations f b.accepted, b.sane.whole)
+
+-- what is read there
+pub number_there : {f : List ℕ} {ii h : ℕ} {xs rows : List ℕ} (o : ℕ) → Board f ii h xs rows → o < size (loop_of f) → get_or xs o 65535 ≡ get_or xs o 0
+number_there {xs = xs} o b m = get_or_within xs o 65535 0 (board_inside o b m)
+
+-- a number that is no blank is a start below the horizon
+pub number_near : {f : List ℕ} {ii h : ℕ} {xs rows : List ℕ} (o : ℕ) → Board f ii h xs rows → get_or xs o 65535 < 65535 → get_or xs o 65535 < h
+number_near o b l = sane_near b.sane o (λ e. omega arith)
 
 -- two tables with the same later rows have as many rows
 pub rest_length : {f : List ℕ} {ii h k : ℕ} {xs rows xs' rows' : List ℕ} → Board f ii h xs rows → Board f ii k xs' rows' → drop ii rows' ≡ drop ii rows → length rows' ≡ length rows
@@ -195,7 +204,7 @@ lift_board {o = o} {xs} b p = part_board b b.sane (lift_fewer xs o) p
 -- ---- their rows
 
 -- the rows with all uses of operation o, started at t, put through g
-abbrev pub over_op : (ℕ → ℕ → ℕ) → Loop → (ii o t : ℕ) → List ℕ → List ℕ
+abbrev over_op : (ℕ → ℕ → ℕ) → Loop → (ii o t : ℕ) → List ℕ → List ℕ
 over_op g l ii o t rows = over_uses g ii t (op_at l o).uses (length (op_at l o).uses) rows
 
 module _ {f : List ℕ} {ii h : ℕ} {xs rows : List ℕ} (o t : ℕ) (b : Board f ii h xs rows) (inside : o < size (loop_of f)) (near : t < h) where

@@ -14,7 +14,8 @@ use lib.ListN.{length, get_or, set}
 use lib.Pow.{pow_pos, pow-add}
 use lib.Seq.{get_or-set_same, get_or-set_other, ext_get_or}
 use Rattle.model.specs.Lists.{up_from, any_of, sum_of}
-use Rattle.model.specs.Refusals.{first_refusal, answered}
+use Rattle.std.specs.Prelude.{Ok}
+use Rattle.model.specs.Refusals.{first_refusal}
 use Rattle.model.specs.Loop.{Loop, no_dep, size, op_at, LoopOk}
 use Rattle.model.specs.File.{loop_of, Accepted}
 use Rattle.model.specs.Legality.{Placing, self_conflict, conflict, conflict_at, touches, breaks, conflicts_with, fits_at}
@@ -22,16 +23,17 @@ use Rattle.model.specs.Table.{row_base}
 use Rattle.model.specs.Session.{Starts, placed_in, force, displaced, is_placed, checks, in_the_way, without, mask_of}
 use Rattle.model.proofs.Lists.{or_false_right, any_row, any_places}
 use Rattle.model.proofs.File.{accepted_ok}
+use Rattle.model.proofs.Firsts.{get_or_within}
 use Rattle.model.proofs.Sums.{sum_next}
-use Rattle.model.proofs.Good.{without_length, without_at, new_passed}
+use Rattle.model.proofs.Good.{New, without_length, without_at, new_passed}
 use Rattle.model.proofs.Good as good
-use Rattle.reservation.specs.Place.{first_met}
+use Rattle.reservation.specs.Place.{first_met, FreeIs}
 use Rattle.reservation.specs.Seats.{seat_of, seats}
 use Rattle.reservation.proofs.Bits.{or_shl}
 use Rattle.reservation.proofs.Seats.{seat_none, seat_some}
 use Rattle.reservation.proofs.Placings.{legal_digits, free_conflict}
-use Rattle.board.specs.Board.{setup_as, starts_of, bare, Sane, Board, IsPut}
-use Rattle.board.specs.Moves.{hit_by, HitIs, HitsAre, way, Cleared, Did}
+use Rattle.board.specs.Board.{setup_as, starts_of, bare, Sane, Board, MayPut, IsPut}
+use Rattle.board.specs.Moves.{hit_by, HitsAre, MarkKnown, way, Cleared, Did}
 use Rattle.board.specs.declared.Reply.TheVariants as reply
 use Rattle.board.proofs.Readings.{starts_at, starts_length, starts_set}
 use Rattle.board.proofs.Boards.{few_operations, board_far, sane_near, same_seats, turn_next, lift_board}
@@ -55,7 +57,7 @@ module _ (f : List ℕ) {ii h : ℕ} {xs : List ℕ} (a : Accepted f) (s : Sane 
       (any_places (λ d. touches p d && breaks ii (seats xs) o t d) (loop_of f).deps no_dep)
 
   -- it is not placed
-  pub way_blank : get_or xs p 65535 ≡ 65535 → way f ii o t xs p ≡ false
+  way_blank : get_or xs p 65535 ≡ 65535 → way f ii o t xs p ≡ false
   way_blank e = way_is 0 ∙ rw (eq-eqb (get_or xs p 65535) 65535 e)
 
   module _ (x : ℕ) (is : get_or xs p 65535 ≡ x) (there : x ≡ 65535 → ⊥) where
@@ -67,15 +69,15 @@ module _ (f : List ℕ) {ii h : ℕ} {xs : List ℕ} (a : Accepted f) (s : Sane 
         (ap seat_of is ∙ seat_some x there)
 
     -- and marked
-    pub way_hit : hit_by (loop_of f) ii (seats xs) o t (length (loop_of f).deps) p ≡ true → way f ii o t xs p ≡ true
+    way_hit : hit_by (loop_of f) ii (seats xs) o t (length (loop_of f).deps) p ≡ true → way f ii o t xs p ≡ true
     way_hit e = way_placed ∙ rw e (or-true (conflicts_with (loop_of f) ii (seats xs) o t p))
 
     -- and neither marked nor in conflict
-    pub way_free : hit_by (loop_of f) ii (seats xs) o t (length (loop_of f).deps) p ≡ false → conflicts_with (loop_of f) ii (seats xs) o t p ≡ false → way f ii o t xs p ≡ false
+    way_free : hit_by (loop_of f) ii (seats xs) o t (length (loop_of f).deps) p ≡ false → conflicts_with (loop_of f) ii (seats xs) o t p ≡ false → way f ii o t xs p ≡ false
     way_free e c = way_placed ∙ rw (e, c)
 
     -- and not marked: the cells decide
-    pub way_clash : (p ≡ o → ⊥) → hit_by (loop_of f) ii (seats xs) o t (length (loop_of f).deps) p ≡ false
+    way_clash : (p ≡ o → ⊥) → hit_by (loop_of f) ii (seats xs) o t (length (loop_of f).deps) p ≡ false
         → way f ii o t xs p ≡ conflict ii (op_at (loop_of f) o) t (op_at (loop_of f) p) x
     way_clash n e = way_placed ∙ rw (e, ne_eqb p o n, is, ne_eqb x 65535 there) (or-false (conflict ii (op_at (loop_of f) o) t (op_at (loop_of f) p) x))
 
@@ -87,6 +89,39 @@ way_same f {ii} {h} {k} {xs} {ys} a s r o t p e n =
     ∙ ap₂ (λ (x : Option ℕ) (b : Bool). is_placed x && ((not (eqb p o) && conflict_at ii (op_at (loop_of f) o) (some t) (op_at (loop_of f) p) x) || b)) (ap seat_of e)
     (hit_same ii (seats xs) (seats ys) o t p (ap seat_of e) n (loop_of f) (length (loop_of f).deps))
     ∙ sym (way_is f a r o t p 0)
+
+-- ---- one operation, by its mark
+
+module _ {f : List ℕ} {ii o t p : ℕ} {free : Bool} {xs : List ℕ} {hits : List Bool} (k : MarkKnown f ii o t p free xs hits) where
+  -- what is read of it
+  number_is : get_or xs p 65535 ≡ get_or xs p 0
+  number_is = get_or_within xs p 65535 0 (omega (arith, few_operations f k.accepted, k.inside_p, k.sane.whole))
+
+  -- it is not placed
+  pub known_blank : get_or xs p 0 ≡ 65535 → way f ii o t xs p ≡ false
+  known_blank e = way_blank f k.accepted k.sane o t p (number_is ∙ e)
+
+  module _ (there : get_or xs p 0 ≡ 65535 → ⊥) where
+    -- it is placed: its start is in range
+    pub known_near : get_or xs p 0 < 4096
+    known_near = omega (arith, number_is, sane_near k.sane p (λ e. there (sym number_is ∙ e)))
+
+    -- and it is another one
+    other : p ≡ o → ⊥
+    other e = there (sym number_is ∙ ap (λ (q : ℕ). get_or xs q 65535) e ∙ k.blank)
+
+    -- it is marked
+    pub known_marked : get_or hits p false ≡ true → way f ii o t xs p ≡ true
+    known_marked e = way_hit f k.accepted k.sane o t p (get_or xs p 0) number_is there (sym (k.hit.1 other) ∙ e)
+
+    module _ (unmarked : get_or hits p false ≡ false) where
+      -- it is not marked: the cells decide
+      pub known_clash : way f ii o t xs p ≡ conflict ii (op_at (loop_of f) o) t (op_at (loop_of f) p) (get_or xs p 0)
+      known_clash = way_clash f k.accepted k.sane o t p (get_or xs p 0) number_is there other (sym (k.hit.1 other) ∙ unmarked)
+
+      -- and no placed operation conflicts with o
+      pub known_free : free ≡ true → way f ii o t xs p ≡ false
+      known_free e = way_free f k.accepted k.sane o t p (get_or xs p 0) number_is there (sym (k.hit.1 other) ∙ unmarked) (k.apart e)
 
 -- ---- the mask
 
@@ -149,15 +184,8 @@ module _ {f : List ℕ} {ii o t p : ℕ} {xs₀ rows₀ xs rows : List ℕ} {mas
           way_blank f b.accepted c.board.sane o t p (clear_here ∙ z) ∙ sym (way_blank f b.accepted b.sane o t p z)
       pick (no n) = way_same f b.accepted c.board.sane b.sane o t p clear_here n
 
-  -- and its mark says what it said
-  pub clear_hit : {hits : List ℕ} → p < size (loop_of f) → HitsAre (loop_of f) ii o t (length (loop_of f).deps) xs₀ hits → HitIs (loop_of f) ii o t p xs hits
-  clear_hit inside h = (
-    h.whole,
-    λ n. h.at p inside n ∙ sym (hit_same ii (seats xs) (seats xs₀) o t p (ap seat_of clear_here) n (loop_of f) (length (loop_of f).deps)),
-  )
-
   -- where the rows were free for operation o, operation p does not conflict with it
-  pub clear_free : o < size (loop_of f) → p < size (loop_of f) → first_met row_base ii rows₀ t (op_at (loop_of f) o).uses ≡ none → conflicts_with (loop_of f) ii (seats xs) o t p ≡ false
+  clear_free : o < size (loop_of f) → p < size (loop_of f) → first_met row_base ii rows₀ t (op_at (loop_of f) o).uses ≡ none → conflicts_with (loop_of f) ii (seats xs) o t p ≡ false
   clear_free inside_o inside e =
       let ok : LoopOk (loop_of f) = accepted_ok f b.accepted in
       let none_at = free_conflict (loop_of f) ii (seats xs₀) o t ok b.numbers.some inside_o (seat_none (get_or xs₀ o 65535) free) rows₀ b.held (legal_digits (loop_of f) ii (seats xs₀) ok b.sane.fine) e in
@@ -165,19 +193,37 @@ module _ {f : List ℕ} {ii o t p : ℕ} {xs₀ rows₀ xs rows : List ℕ} {mas
       ∙ any_row (conflicts_with (loop_of f) ii (seats xs₀) o t) 0 (size (loop_of f)) p (or_false_right (self_conflict ii (op_at (loop_of f) o)) _ none_at) (omega arith) (omega arith)
 
   -- operation o is still not placed
-  pub clear_open : get_or xs o 65535 ≡ 65535
+  clear_open : get_or xs o 65535 ≡ 65535
   clear_open = c.at o ∙ pick (ltb o p && way f ii o t xs₀ o)
     where
       pick : (w : Bool) → cond w 65535 (get_or xs₀ o 65535) ≡ 65535
       pick true = refl
       pick false = free
 
+  -- what is known of operation p: its mark says what it said
+  pub clear_known : {hits : List Bool} {clear : Bool} → o < size (loop_of f) → p < size (loop_of f) → t < 4096 → HitsAre (loop_of f) ii o t (length (loop_of f).deps) xs₀ hits
+      → FreeIs (op_at (loop_of f) o) ii t rows₀ clear → MarkKnown f ii o t p clear xs hits
+  clear_known inside_o inside near h is = record {
+    accepted = b.accepted;
+    numbers = b.numbers;
+    sane = c.board.sane;
+    inside = inside_o;
+    inside_p = inside;
+    near = near;
+    blank = clear_open;
+    hit = (
+      h.whole,
+      λ n. h.at p inside n ∙ sym (hit_same ii (seats xs) (seats xs₀) o t p (ap seat_of clear_here) n (loop_of f) (length (loop_of f).deps)),
+    );
+    apart = λ e. clear_free inside_o inside (is.yes e);
+  }
+
   -- an operation in the way is placed
   pub clear_placed : way f ii o t xs p ≡ true → get_or xs p 65535 < 65535
   clear_placed w = pick (ℕ_discrete (get_or xs p 65535) 65535)
     where
       pick : Dec (get_or xs p 65535 ≡ 65535) → get_or xs p 65535 < 65535
-      pick (yes e) = let z : false ≡ true = sym (way_blank f b.accepted c.board.sane o t p e) ∙ w in let y : ◌≡◌ {A = ℕ} 0 1 = cc in absurd (omega arith)
+      pick (yes e) = let z : false ≡ true = sym (way_blank f b.accepted c.board.sane o t p e) ∙ w in let n : ⊥ = cc in absurd n
       pick (no n) = omega (arith, sane_near c.board.sane p n)
 
   -- a turn: operation p is not in the way, and is left
@@ -237,30 +283,33 @@ module _ {f : List ℕ} {ii h o t : ℕ} {xs rows xs' rows' : List ℕ} {mask : 
 
 module _ {f : List ℕ} {ii h : ℕ} {xs rows : List ℕ} (b : Board f ii h xs rows) (o t : ℕ) (fine : first_refusal (checks (setup_as f ii h) (force o t) (bare f xs)) ≡ none) where
   -- the operation is there, not placed, and its start below the horizon
-  pub force_inside : o < size (loop_of f)
-  force_inside = (new_passed (setup_as f ii h) (bare f xs) o t _ fine).inside
+  force_new : New (setup_as f ii h) (bare f xs) o t
+  force_new = new_passed (setup_as f ii h) (bare f xs) o t _ fine
 
-  pub force_open : get_or xs o 65535 ≡ 65535
-  force_open = blank_is xs o (sym (starts_at (size (loop_of f)) xs o force_inside) ∙ (new_passed (setup_as f ii h) (bare f xs) o t _ fine).free)
+  force_open : get_or xs o 65535 ≡ 65535
+  force_open = blank_is xs o (sym (starts_at (size (loop_of f)) xs o force_new.inside) ∙ force_new.free)
 
-  pub force_near : t < h
-  force_near = (new_passed (setup_as f ii h) (bare f xs) o t _ fine).soon
+  -- so what is in its way can be taken out
+  pub force_clear : Board f ii 4096 xs rows × (o < size (loop_of f)) × (get_or xs o 65535 ≡ 65535) × (t < 4096)
+  force_clear = (board_far b, force_new.inside, force_open, omega (arith, force_new.soon, b.numbers.far))
 
   module _ {xs' rows' : List ℕ} {mask : ℕ} (c : Cleared f ii o t (size (loop_of f)) xs rows xs' rows' mask) where
-    -- with what was in the way taken out it is still not placed
-    pub force_free : get_or xs' o 65535 ≡ 65535
-    force_free = clear_open (board_far b) force_open c
-
-    -- and fits
-    pub force_fits : fits_at (loop_of f) ii (seats xs') o t ≡ true
-    force_fits =
-        subst (λ (g : Placing). fits_at (loop_of f) ii g o t ≡ true) (ap placed_in (sym (left_starts b c)) ∙ same_seats f xs' b.accepted c.board.sane.whole c.board.sane.blank)
-        (good.force_fits (setup_as f ii h) (accepted_ok f b.accepted) b.numbers.some (bare f xs) o t fine)
+    -- with what was in the way taken out it is still not placed, and fits
+    pub force_put : MayPut f ii o t xs' rows'
+    force_put = record {
+      board = c.board;
+      inside = force_new.inside;
+      blank = clear_open (board_far b) force_open c;
+      near = force_clear.3;
+      fits =
+          subst (λ (g : Placing). fits_at (loop_of f) ii g o t ≡ true) (ap placed_in (sym (left_starts b c)) ∙ same_seats f xs' b.accepted c.board.sane.whole c.board.sane.blank)
+          (good.force_fits (setup_as f ii h) (accepted_ok f b.accepted) b.numbers.some (bare f xs) o t fine);
+    }
 
     -- forced
-    pub did_force : {xs'' rows'' : List ℕ} → IsPut f ii o t xs' rows' xs'' rows'' → Did (force o t) f ii h xs rows xs'' rows'' (reply.Displaced mask)
+    pub did_force : {xs'' rows'' : List ℕ} → IsPut f ii o t xs' rows' xs'' rows'' → Did (force o t) f ii h xs rows xs'' rows'' (Ok (reply.Displaced mask))
     did_force p =
-        did_done b (force o t) (reply.Displaced mask) fine (ap (λ (m : ℕ). answered (displaced m)) (left_mask b c))
+        did_done b (force o t) (reply.Displaced mask) fine (ap displaced (left_mask b c))
         (ap (starts_of (size (loop_of f))) p.starts_are ∙ starts_set (size (loop_of f)) xs' o t
-        ∙ ap₂ (λ (ys : Starts) (x : Option ℕ). set ys o x) (left_starts b c) (seat_some t (λ e. omega (arith, force_near, b.numbers.far))))
-        force_inside c.board.sane p c.rest
+        ∙ ap₂ (λ (ys : Starts) (x : Option ℕ). set ys o x) (left_starts b c) (seat_some t (λ e. omega (arith, force_put.near))))
+        force_new.inside c.board.sane p c.rest

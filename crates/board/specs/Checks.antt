@@ -1,25 +1,16 @@
--- Refusals passed on from one answer to the next. Assumes nothing.
-use Rattle.refusals.specs.declared.Checked.{Checked}
-use Rattle.refusals.specs.declared.Checked.TheVariants as checked
-use Rattle.reservation.specs.declared.Broken.{Broken}
-use Rattle.reservation.specs.declared.Broken.TheVariants as broken
+-- What was found as a refusal. Assumes nothing.
+use Rattle.std.specs.Prelude.{ℕ, Option, Some, None, Result, Ok, Err}
+use Rattle.refusals.specs.declared.Refusal.{Refusal}
+use Rattle.refusals.specs.declared.Refusal.TheVariants.{Broken, Conflict}
 use Rattle.reservation.specs.declared.Place.{Place}
-use Rattle.reservation.specs.declared.Place.TheVariants as place
 use Rattle.reservation.specs.Place.{number_in}
-use Rattle.board.specs.declared.Reply.{Reply}
-use Rattle.board.specs.declared.Reply.TheVariants as reply
 
 -- a broken dependence as a refusal
-abbrev pub as_unmet : Broken → Checked
-as_unmet broken.Nothing = checked.Fine
-as_unmet (broken.At e) = checked.Refused 16 e
+abbrev pub as_unmet : Option ℕ → Result (Unit {0}) Refusal
+as_unmet None = Ok tt
+as_unmet (Some e) = Err (Broken e)
 
 -- the first taken place as a refusal
-abbrev pub as_clash : Place → Checked
-as_clash place.Free = checked.Fine
-as_clash (place.Taken k s) = checked.Refused 17 (number_in (place.Taken k s))
-
--- a check's refusal as a call's answer
-abbrev pub as_reply : Checked → Reply
-as_reply checked.Fine = reply.Done
-as_reply (checked.Refused n d) = reply.Refused n d
+abbrev pub as_clash : Option Place → Result (Unit {0}) Refusal
+as_clash None = Ok tt
+as_clash (Some p) = Err (Conflict (number_in (Some p)))

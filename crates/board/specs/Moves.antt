@@ -1,7 +1,7 @@
 -- What the calls do to starts and rows. Assumes nothing.
 use Rattle.std.specs.Prelude.{◌≡◌, Bool, true, false, cond, ◌&&◌, List, ◌⊎◌, ℕ, ◌^◌, ◌<◌, eqb, ltb, length, get_or, drop}
 use Rattle.model.specs.Lists.{up_from, any_of, sum_of}
-use Rattle.model.specs.Refusals.{Refusal, Answer, answered, refused}
+use Rattle.model.specs.Refusals.{Refusal, Answer, refused}
 use Rattle.model.specs.Loop.{Loop, dep_at, size}
 use Rattle.model.specs.File.{loop_of, Accepted}
 use Rattle.model.specs.Legality.{Placing, touches, breaks, conflicts_with}
@@ -10,20 +10,26 @@ use Rattle.model.specs.Session.{Call, in_the_way, step}
 use Rattle.model.specs.Session as model
 use Rattle.reservation.specs.Seats.{seats}
 use Rattle.board.specs.Board.{starts_of, setup_as, bare, Numbers, Sane, Board}
+use Rattle.std.specs.Prelude.{Result}
+use Rattle.refusals.specs.Told.{answer_of}
+use Rattle.refusals.specs.declared.Refusal as code
 use Rattle.board.specs.declared.Reply.{Reply}
 use Rattle.board.specs.declared.Reply.TheVariants as reply
 
+-- an answer as the model has it
+abbrev pub said : Reply → model.Reply
+said reply.Done = model.done
+said (reply.Displaced m) = model.displaced m
+said (reply.Numbered n) = model.numbered n
+
 -- what a call answers, in document 01's numbers
-abbrev pub reply_of : Reply → Answer model.Reply
-reply_of reply.Done = answered model.done
-reply_of (reply.Displaced m) = answered (model.displaced m)
-reply_of (reply.Numbered n) = answered (model.numbered n)
-reply_of (reply.Refused n d) = refused (record { number = n; detail = d })
+abbrev pub reply_of : Result Reply code.Refusal → Answer model.Reply
+reply_of r = answer_of said r
 
 -- ---- placing, forcing, removing
 
 -- call c on the starts xs and the rows: the answer and the new starts are the model's, the rows are their table and later rows as they were; a refusal leaves all as it was
-pub record Did (c : Call) (f : List ℕ) (ii h : ℕ) (xs rows xs' rows' : List ℕ) (r : Reply) : Type 0 where
+pub record Did (c : Call) (f : List ℕ) (ii h : ℕ) (xs rows xs' rows' : List ℕ) (r : Result Reply code.Refusal) : Type 0 where
   pub reply : reply_of r ≡ (step (setup_as f ii h) c (bare f xs)).1
   pub starts_are : starts_of (size (loop_of f)) xs' ≡ (step (setup_as f ii h) c (bare f xs)).0.starts
   pub board : Board f ii h xs' rows'
@@ -31,7 +37,7 @@ pub record Did (c : Call) (f : List ℕ) (ii h : ℕ) (xs rows xs' rows' : List 
   pub kept : (x : Refusal) → reply_of r ≡ refused x → (xs' ≡ xs) × (rows' ≡ rows)
 
 -- removing asks for no horizon, and keeps every one
-abbrev pub Removed : List ℕ → (ii o : ℕ) → (xs rows xs' rows' : List ℕ) → Reply → Type 0
+abbrev pub Removed : List ℕ → (ii o : ℕ) → (xs rows xs' rows' : List ℕ) → Result Reply code.Refusal → Type 0
 Removed f ii o xs rows xs' rows' r = (h : ℕ) → Board f ii h xs rows → Did (model.remove o) f ii h xs rows xs' rows' r
 
 -- ---- what is in the way
@@ -41,16 +47,16 @@ unfoldable pub hit_by : Loop → ℕ → Placing → (o t k p : ℕ) → Bool
 hit_by l ii f o t k p = any_of (λ e. touches p (dep_at l e) && breaks ii f o t (dep_at l e)) (up_from 0 k)
 
 -- the mark of operation p says so, if p is another one
-abbrev pub HitIs : Loop → (ii o t p : ℕ) → (xs hits : List ℕ) → Type 0
-HitIs l ii o t p xs hits = (length hits ≡ 64) × ((p ≡ o → ⊥) → eqb (get_or hits p 0) 1 ≡ hit_by l ii (seats xs) o t (length l.deps) p)
+abbrev pub HitIs : Loop → (ii o t p : ℕ) → (xs : List ℕ) → (hits : List Bool) → Type 0
+HitIs l ii o t p xs hits = (length hits ≡ 64) × ((p ≡ o → ⊥) → get_or hits p false ≡ hit_by l ii (seats xs) o t (length l.deps) p)
 
 -- the marks of all other operations say so, of the first k dependences
-pub record HitsAre (l : Loop) (ii o t k : ℕ) (xs hits : List ℕ) : Type 0 where
+pub record HitsAre (l : Loop) (ii o t k : ℕ) (xs : List ℕ) (hits : List Bool) : Type 0 where
   pub whole : length hits ≡ 64
-  pub at : (p : ℕ) → p < size l → (p ≡ o → ⊥) → eqb (get_or hits p 0) 1 ≡ hit_by l ii (seats xs) o t k p
+  pub at : (p : ℕ) → p < size l → (p ≡ o → ⊥) → get_or hits p false ≡ hit_by l ii (seats xs) o t k p
 
 -- what is asked to tell whether operation p is in the way of o, which is not placed, at t: that the mark of p is right, and where o is said to be free there that p does not conflict with it
-pub record MarkKnown (f : List ℕ) (ii o t p : ℕ) (free : Bool) (xs hits : List ℕ) : Type 0 where
+pub record MarkKnown (f : List ℕ) (ii o t p : ℕ) (free : Bool) (xs : List ℕ) (hits : List Bool) : Type 0 where
   pub accepted : Accepted f
   pub numbers : Numbers ii 4096
   pub sane : Sane (loop_of f) ii 4096 xs

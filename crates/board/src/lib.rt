@@ -1,6 +1,6 @@
 // Starts of the placed operations and the rows that hold them, on slices: what each call of a session is refused for, and what it does. Internal: each function asks that the rows are
-// the table of the starts; the session's calls and the replay of a list of calls share them.
-#![tactic(auto)]
+// the table of the starts; the session's calls and the planner's attempts (`iterative`) share them.
+#![tactic(auto, using(crate::proofs::Boards::few_operations))]
 
 pub mod checks;
 pub mod moves;
@@ -13,14 +13,15 @@ ghost use Rattle.board.specs.Board.{Board, MayPut, IsPut};
 use loop_access::first_use;
 use reservation::cells::{release, reserve};
 
-// What a call answers: done; the operations that were displaced, bit i for operation i; the number of the new checkpoint; or a refusal with its number and detail.
-#[derive(Clone, Copy)]
+// What a call that is not refused answers: done; the operations that were displaced, bit i for operation i; the number of the new checkpoint.
+#[derive(Clone, Copy, Debug, PartialEq, Eq)]
 pub enum Reply {
     Done,
     Displaced(u64),
     Numbered(usize),
-    Refused(usize, usize),
 }
+
+// The starts are numbers, in which 65,535 stands for "not placed", and no Options: the C interface hands them out so, and Options would take twice the memory.
 
 // Takes out a placed operation.
 fn lift(file: &[u8], op: usize, interval: usize, starts: &mut [u16; 64], rows: &mut [u64])

@@ -1,7 +1,5 @@
 // 400 random loops: `bounds` against the count over all cycles.
 use crate::cycles;
-use bounds::LowerBounds;
-use std::num::wrapping_add_usize;
 use trial::drawn::{Drawn, with_dep};
 use trial::random::{next, pick};
 use trial::{draw, file};
@@ -20,44 +18,41 @@ fn aim(seed: usize, x: usize, n: usize) -> usize {
     }
 }
 
-// Dependence 4 - k, with a delay from -6 to 6 and a distance from 0 to 2. Most are those of a ring, from its end.
-fn draw_dep(d: Drawn, k: usize) -> Drawn {
+// Dependence e, of the operation `from` of the ring, and mostly with its operation `to`; with a delay from -6 to 6 and a distance from 0 to 2.
+fn draw_dep(d: Drawn, e: usize, from: usize, to: usize) -> Drawn {
     let a = next(d.seed);
     let b = next(a);
     let c = next(b);
-    let from = around(k, d.n);
-    let to = aim(a, wrapping_add_usize(k, 1), d.n);
-    let e = std::num::wrapping_sub_usize(4, k);
-    let mut out = with_dep(d, e, from, to, pick(b, 0, 13), pick(c, 0, 3));
-    out.seed = c;
-    out
+    let drawn = with_dep(
+        d,
+        e,
+        around(from, d.n),
+        aim(a, to, d.n),
+        pick(b, 0, 13),
+        pick(c, 0, 3),
+    );
+    Drawn { seed: c, ..drawn }
 }
 
-// A loop of 1 to 4 operations without uses and 1 to 5 dependences.
+// A loop of 1 to 4 operations without uses and 1 to 5 dependences. Most are those of a ring, from its end.
 fn draw_loop(seed: usize) -> Drawn {
     let a = next(seed);
     let b = next(a);
     let mut d = draw::blank(b, pick(a, 1, 4), pick(b, 1, 5), 1, 1);
-    let mut k: usize = 5;
-    while 0 < k {
-        k -= 1;
-        d = draw_dep(d, k);
+    for e in 0..5 {
+        d = draw_dep(d, e, 4 - e, 5 - e);
     }
     d
 }
 
-// The library's bounds.
-fn computed(d: Drawn) -> LowerBounds {
+// Whether the library's bounds of a loop are 1, since no slot is used, and the recurrence bound; or it has none of a loop that has none.
+fn agrees(d: Drawn) -> bool {
     let mut bytes = [0u8; 2000];
     let len = file::put_file(&mut bytes, d);
-    bounds::bounds(file::first(&bytes, len))
-}
-
-// Whether the answer is that of a recurrence bound, 1,000 where there is none.
-fn same(found: LowerBounds, bound: usize) -> bool {
-    match found {
-        LowerBounds::Found(resource, recurrence) => (resource == 1) & (recurrence == bound),
-        LowerBounds::Refused(number, detail) => (number == 8) & (detail == 0) & (bound == 1000),
+    match (bounds::bounds(file::first(&bytes, len)), cycles::bound(d)) {
+        (Ok(found), Some(bound)) => found.resource == 1 && found.recurrence == bound,
+        (Err(refusal), None) => refusal.number() == 8 && refusal.detail() == 0,
+        _ => false,
     }
 }
 
@@ -65,14 +60,12 @@ fn same(found: LowerBounds, bound: usize) -> bool {
 pub fn agreeing() -> usize {
     let mut seed = 1;
     let mut agree = 0;
-    let mut i: usize = 0;
-    while i < 400 {
+    for _ in 0..400usize {
         let d = draw_loop(seed);
-        if same(computed(d), cycles::bound(d)) {
-            agree = wrapping_add_usize(agree, 1);
+        if agrees(d) {
+            agree += 1;
         }
         seed = d.seed;
-        i += 1;
     }
     agree
 }

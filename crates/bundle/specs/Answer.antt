@@ -1,10 +1,9 @@
 -- What the reading of a bundle answers. Assumes nothing.
-use Rattle.std.specs.Prelude.{ℕ}
-use Rattle.model.specs.Refusals.{Answer, answered, refused}
-use Rattle.bundle.specs.declared.Bundled.{Bundled}
-use Rattle.bundle.specs.declared.Bundled.TheVariants as bundled
+use Rattle.std.specs.Prelude.{ℕ, Result}
+use Rattle.model.specs.Refusals.{Answer}
+use Rattle.refusals.specs.Told.{answer_of}
+use Rattle.refusals.specs.declared.Refusal.{Refusal}
 
 -- what `read` says
-abbrev pub bundled_of : Bundled → Answer ℕ
-bundled_of (bundled.Files n) = answered n
-bundled_of (bundled.Refused n d) = refused (record { number = n; detail = d })
+abbrev pub bundled_of : Result ℕ Refusal → Answer ℕ
+bundled_of r = answer_of (λ n. n) r

@@ -7,68 +7,53 @@ ghost use Rattle.model.specs.Bundle.{read_bundle, files, count_in, has_file, fil
 ghost use Rattle.bundle.specs.Answer.{bundled_of};
 
 use loop_access::bytes::{wide, word};
+use refusals::Refusal;
 
-// The number of a bundle's files, or a refusal with its number and detail.
-#[derive(Clone, Copy)]
-pub enum Bundled {
-    Files(usize),
-    Refused(usize, usize),
-}
-
-// Reads any bytes: the count, then entry by entry, then the end of the last file.
-pub fn read(bundle: &[u8]) -> Bundled
+// Reads any bytes: the count, then entry by entry, then the end of the last file. The number of the bundle's files.
+#[tactic(auto, using(crate::proofs::Reading::entries))]
+pub fn read(bundle: &[u8]) -> Result<usize, Refusal>
     ensures { bundled_of result ≡ count_in (read_bundle bundle.now) }
 {
     let len = bundle.len();
     if len < 1 {
-        return Bundled::Refused(21, 0);
+        return Err(Refusal::Bundle(0));
     }
     let n = wide(bundle[0]);
-    if n < 1 {
-        return Bundled::Refused(21, 0);
-    }
-    if 32 < n {
-        return Bundled::Refused(21, 0);
+    if n < 1 || 32 < n {
+        return Err(Refusal::Bundle(0));
     }
     let mut begin = 1 + 4 * n;
-    let mut i = 0;
-    while i < n {
+    for i in 0..n {
         let at = 1 + 4 * i;
-        if len < at + 4 {
-            return Bundled::Refused(21, i + 1);
+        if len < at + 4 || word(bundle, at) != begin {
+            return Err(Refusal::Bundle(i + 1));
         }
-        if word(bundle, at) != begin {
-            return Bundled::Refused(21, i + 1);
-        }
-        begin = begin + word(bundle, at + 2);
+        begin += word(bundle, at + 2);
         if len < begin {
-            return Bundled::Refused(21, i + 1);
+            return Err(Refusal::Bundle(i + 1));
         }
-        i = i + 1;
     }
     if begin != len {
-        return Bundled::Refused(21, n);
+        return Err(Refusal::Bundle(n));
     }
-    Bundled::Files(n)
+    Ok(n)
 }
 
 // The number of files, 0 where the bundle is refused.
 fn count(bundle: &[u8]) -> usize
     ensures { (result ≡ length (files bundle.now)) × (result < 33) }
 {
-    match read(bundle) {
-        Bundled::Files(n) => n,
-        Bundled::Refused(_, _) => 0,
-    }
+    read(bundle).unwrap_or(0)
 }
 
 // File i, as part of the bundle; the empty part where the bundle is refused or i is past the last.
+#[tactic(auto, using(model::proofs::Bundle::entry_at_lem, model::proofs::Bundle::part_is))]
 pub fn file(bundle: &[u8], i: usize) -> &[u8]
     ensures { result.now ≡ file_at bundle.now i }
 {
     let n = count(bundle);
     if n <= i {
-        return &bundle[0..0];
+        return &bundle[..0];
     }
     let at = 1 + 4 * i;
     let begin = word(bundle, at);
@@ -77,6 +62,7 @@ pub fn file(bundle: &[u8], i: usize) -> &[u8]
 }
 
 // Where file i begins in the bundle; 0 where there is none.
+#[tactic(auto, using(model::proofs::Bundle::entry_at_lem, std::proofs::lemmas::Bool::Decides::nat_tests))]
 pub fn offset(bundle: &[u8], i: usize) -> usize
     ensures { result ≡ begin_of bundle.now i }
 {

@@ -5,41 +5,32 @@ use mathlib.Core.List.{List, [], ◌∷◌, ◌++◌}
 use Prim.Native.Nat.{ℕ, zero, suc, ◌+◌, ◌*◌, ◌-◌, ◌≤◌, ◌<◌, min}
 use native.Mathlib.Numerals.{add-one}
 use native.Mathlib.Omega.{arith}
-use borrow.Author.Tests.{le-leb}
 use lib.Dec.{eqb}
 use lib.ListN.{length, drop, get_or, set, drop_of_length-le, length-append}
 use lib.Seq.{drop-cons, append_snoc, set_at}
+use Rattle.std.specs.List.{prefix_len}
 use Rattle.console.specs.Scan.{blanks, is_figure, figures, value_from, value_at, next_at, places, values}
 
 -- the rest of a text from a place in it on, with the code's i + 1
 from : (text : List ℕ) (i : ℕ) → i < length text → drop i text ≡ get_or text i 0 ∷ drop (i + 1) text
 from text i h = drop-cons text i 0 h ∙ ap (λ (n : ℕ). get_or text i 0 ∷ drop n text) (sym (add-one i))
 
+-- the spaces that a text begins with, by the library's word
+pub prefix_blanks : (t : List ℕ) → prefix_len (λ b. eqb b 32) t ≡ blanks t
+unfolding blanks
+prefix_blanks [] = refl
+prefix_blanks (b ∷ t) = ap (λ (n : ℕ). cond (eqb b 32) n 0) (omega (arith, prefix_blanks t))
+
 module _ (text : List ℕ) (i : ℕ) where
-  -- a space
-  pub blank : i < length text → get_or text i 0 ≡ 32 → blanks (drop i text) ≡ suc (blanks (drop (i + 1) text))
-  unfolding blanks
-  blank h e = ap blanks (from text i h) ∙ ap (λ (b : ℕ). cond (eqb b 32) (suc (blanks (drop (i + 1) text))) 0) e
-
-  -- another byte
-  pub not_blank : i < length text → eqb (get_or text i 0) 32 ≡ false → blanks (drop i text) ≡ 0
-  unfolding blanks
-  not_blank h e = ap blanks (from text i h) ∙ ap (λ (t : Bool). cond t (suc (blanks (drop (i + 1) text))) 0) e
-
   -- a digit
-  pub figure : i < length text → 48 ≤ get_or text i 0 → get_or text i 0 ≤ 57 → figures (drop i text) ≡ suc (figures (drop (i + 1) text))
-  unfolding figures
-  figure h l g =
-      let e : is_figure (get_or text i 0) ≡ true = simp (le-leb 48 (get_or text i 0) l, le-leb (get_or text i 0) 57 g) in
-      ap figures (from text i h) ∙ ap (λ (t : Bool). cond t (suc (figures (drop (i + 1) text))) 0) e
-
-  pub figure_value : (n : ℕ) → i < length text → 48 ≤ get_or text i 0 → get_or text i 0 ≤ 57
-      → value_from n (drop i text) ≡ value_from (min (10 * n + (get_or text i 0 - 48)) 18446744073709551615) (drop (i + 1) text)
-  unfolding value_from
-  figure_value n h l g =
-      let e : is_figure (get_or text i 0) ≡ true = simp (le-leb 48 (get_or text i 0) l, le-leb (get_or text i 0) 57 g) in
-      ap (value_from n) (from text i h)
-      ∙ ap (λ (t : Bool). cond t (value_from (min (10 * n + (get_or text i 0 - 48)) 18446744073709551615) (drop (i + 1) text)) n) e
+  pub figure : (n : ℕ) → i < length text → is_figure (get_or text i 0) ≡ true
+      → (figures (drop i text) ≡ suc (figures (drop (i + 1) text))) × (value_from n (drop i text) ≡ value_from (min (10 * n + (get_or text i 0 - 48)) 18446744073709551615) (drop (i + 1) text))
+  unfolding figures value_from
+  figure n h e = (
+    ap figures (from text i h) ∙ ap (λ (t : Bool). cond t (suc (figures (drop (i + 1) text))) 0) e,
+    ap (value_from n) (from text i h)
+        ∙ ap (λ (t : Bool). cond t (value_from (min (10 * n + (get_or text i 0 - 48)) 18446744073709551615) (drop (i + 1) text)) n) e,
+  )
 
   -- another byte
   pub no_figure : (n : ℕ) → i < length text → is_figure (get_or text i 0) ≡ false → (figures (drop i text) ≡ 0) × (value_from n (drop i text) ≡ n)
@@ -51,11 +42,11 @@ module _ (text : List ℕ) (i : ℕ) where
   )
 
   -- the end
-  pub at_end : (n : ℕ) → length text ≤ i → (blanks (drop i text) ≡ 0) × (figures (drop i text) ≡ 0) × (value_from n (drop i text) ≡ n)
-  unfolding blanks figures value_from
+  pub at_end : (n : ℕ) → length text ≤ i → (figures (drop i text) ≡ 0) × (value_from n (drop i text) ≡ n)
+  unfolding figures value_from
   at_end n h =
       let e : drop i text ≡ [] = drop_of_length-le text h in
-      (ap blanks e, ap figures e, ap (value_from n) e)
+      (ap figures e, ap (value_from n) e)
 
 -- ---- a list of numbers
 

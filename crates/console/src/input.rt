@@ -1,87 +1,54 @@
 // Standard input, read to its end.
-ghost use Rattle.std.specs.Prelude.{◌≡◌, ◌≤◌, length};
+ghost use Rattle.std.specs.Prelude.{◌≡◌, ◌≤◌, ℕ, true, length, take, IfOk, IfSome, MatchResult};
+ghost use Rattle.std.specs.Fn.{FnOnceReturnsAt};
 ghost use Rattle.io.specs.Counts.{IsPrefixLen};
 
 use crate::line::text;
-use std::io::{Read, Stdin};
+use std::io::{Error, Read, Stdin};
 
-// What was read: whether the input came whole, to its end with no read that failed, and how many bytes at the start of the buffer are kept of it.
-#[derive(Clone, Copy)]
-pub struct Input {
-    pub whole: bool,
-    pub count: usize,
-}
-
-// What one read came to: there may be more, the input ended, or the read failed.
-#[derive(Drop)]
-enum Went {
-    On,
-    Ended,
-    Failed,
-}
-
-// One read, and how many bytes are kept then.
-#[derive(Drop)]
-struct Step {
-    have: usize,
-    went: Went,
-}
-
-// Reads once, and puts what came behind the first `have` bytes, as far as there is room. Only a read of no bytes is the end of the input: one of few is not.
-fn read_once(from: &mut Stdin, bytes: &mut [u8], have: usize) -> Step
+// Reads once, and puts what came behind the first `have` bytes, as far as there is room: how many bytes are kept then, or none at the end of the input. Only a read of no bytes is the end: one of few is not.
+#[tactic(auto, using(crate::proofs::Lines::put_within))]
+fn read_once(from: &mut Stdin, bytes: &mut [u8], have: usize) -> Result<Option<usize>, Error>
     requires { have ≤ length bytes.old }
-    ensures { (result.have ≤ length bytes.new) × (length bytes.new ≡ length bytes.old) }
+    ensures kept { IfOk result (λ o. IfSome o (λ next. next ≤ length bytes.new)) }
+    ensures bytes_len_unchanged { length bytes.new ≡ length bytes.old }
 {
     let mut chunk = io::buffer();
-    match from.read(&mut chunk) {
-        Err(_) => Step {
-            have: have,
-            went: Went::Failed,
-        },
-        Ok(0) => Step {
-            have: have,
-            went: Went::Ended,
-        },
-        Ok(n) => {
-            let next = text(bytes, have, &chunk[..n]);
-            Step {
-                have: next,
-                went: Went::On,
-            }
-        }
+    match from.read(&mut chunk)? {
+        0 => Ok(None),
+        n => Ok(Some(text(bytes, have, &chunk[..n]))),
     }
 }
 
-// Reads to the end: keeps as many bytes as there is room for, and drops the rest. The loop counts its turns down, since nothing says that an input ends, from a number that no input uses up.
-pub fn read_all(from: &mut Stdin, bytes: &mut [u8]) -> Input
-    ensures prefix_len { IsPrefixLen result.count bytes.new }
+// Reads to the end: keeps as many bytes as there is room for, and drops the rest. How many are kept, at the start of the buffer: `Ok` where the input came whole, and `Err` where a read failed. The loop counts its turns,
+// since nothing says that an input ends, up to a number that no input uses up.
+pub fn read_all(from: &mut Stdin, bytes: &mut [u8]) -> Result<usize, usize>
+    ensures prefix_len { MatchResult result (λ n. IsPrefixLen n bytes.new) (λ n. IsPrefixLen n bytes.new) }
     ensures bytes_len_unchanged { length bytes.new ≡ length bytes.old }
 {
     let mut have = 0;
-    let mut turns = u64::MAX;
-    while turns > 0 {
-        let step = read_once(from, bytes, have);
-        let went = step.went;
-        have = step.have;
-        match went {
-            Went::On => {}
-            Went::Ended => {
-                return Input {
-                    whole: true,
-                    count: have,
-                };
-            }
-            Went::Failed => {
-                return Input {
-                    whole: false,
-                    count: have,
-                };
-            }
+    for _ in 0..u64::MAX {
+        match read_once(from, bytes, have) {
+            Ok(Some(next)) => have = next,
+            Ok(None) => return Ok(have),
+            Err(_) => return Err(have),
         }
-        turns -= 1;
     }
-    Input {
-        whole: false,
-        count: have,
+    Err(have)
+}
+
+// Reads to the end, and gives the bytes that are kept to f, where the input came whole; else says that it cannot be read. Whether it came whole.
+pub fn with_input<F: FnOnce(&[u8])>(from: &mut Stdin, bytes: &mut [u8], f: F) -> bool
+    requires { F.IsAlwaysCallable f }
+    ensures given { result ≡ true → (n : ℕ) × IsPrefixLen n bytes.new × FnOnceReturnsAt F.FnOnce f (take n bytes.new) tt }
+    ensures bytes_len_unchanged { length bytes.new ≡ length bytes.old }
+{
+    let read = read_all(from, bytes);
+    match read {
+        Ok(n) => f(&bytes[..n]),
+        Err(_) => {
+            io::write_all(1, b"cannot read\n");
+        }
     }
+    read.is_ok()
 }

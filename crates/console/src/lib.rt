@@ -5,6 +5,6 @@ mod input;
 mod line;
 mod scan;
 
-pub use input::{Input, read_all};
-pub use line::{form, list, number, print, rest, text};
-pub use scan::{Scanned, find, number_at, numbers};
+pub use input::{read_all, with_input};
+pub use line::{list, number, print, rest, text};
+pub use scan::{Scanned, each_line, find, number_at, numbers};

@@ -1,5 +1,7 @@
-// Numbers read from text.
-ghost use Rattle.std.specs.Prelude.{◌≡◌, ◌≢◌, ℕ, ◌+◌, ◌*◌, ◌<◌, ◌≤◌, min, length, drop, slice_index};
+// Lines and numbers read from text.
+ghost use Rattle.std.specs.Fn.{CalledAt};
+ghost use Rattle.std.specs.List.{FoldsTo, slice_split};
+ghost use Rattle.std.specs.Prelude.{◌≡◌, ◌≢◌, ◌==◌, ℕ, ◌+◌, ◌*◌, ◌<◌, ◌≤◌, min, length, drop, slice_index};
 ghost use Rattle.console.specs.Scan.{begin, figures, value_from, value_at, next_at, places, values};
 
 // The first place from `at` on that holds the byte, or the end of the text.
@@ -10,14 +12,20 @@ pub fn find(text: &[u8], at: usize, byte: u8) -> usize
     ensures before { (k : ℕ) → at ≤ k → k < result → slice_index text.now k ≢ byte }
     ensures found { result < length text.now → slice_index text.now result ≡ byte }
 {
-    let mut i = at;
-    while i < text.len() {
+    for i in at..text.len() {
         if text[i] == byte {
             return i;
         }
-        i += 1;
     }
-    i
+    text.len()
+}
+
+// Gives each line of a text to f, one after the other.
+pub fn each_line<F: FnMut(&[u8])>(text: &[u8], f: F)
+    requires { F.IsAlwaysCallable f }
+    ensures { (last : F) × FoldsTo (λ p line q. CalledAt F.FnMut p line tt q) f (slice_split (λ b. b == 10) text.now) last }
+{
+    text.split(|b| *b == b'\n').for_each(f);
 }
 
 // A number that was read, and the place after it.
@@ -31,14 +39,7 @@ pub struct Scanned {
 fn skip(text: &[u8], at: usize) -> usize
     ensures { result ≡ begin text.now at }
 {
-    let mut i = at;
-    while i < text.len() {
-        if text[i] != 32 {
-            return i;
-        }
-        i += 1;
-    }
-    i
+    at + text.iter().skip(at).take_while(|b| **b == b' ').count()
 }
 
 // A number with one digit more, or the largest number where that is too large.
@@ -46,58 +47,47 @@ fn with_digit(n: usize, digit: u8) -> usize
     requires { digit < 10 }
     ensures { result ≡ min (10 * n + digit) 18446744073709551615 }
 {
-    if n > 1844674407370955161 {
-        return 18446744073709551615;
-    }
-    if n < 1844674407370955161 {
-        return 10 * n + digit as usize;
-    }
-    if digit > 5 {
-        return 18446744073709551615;
-    }
-    10 * n + digit as usize
+    n.saturating_mul(10).saturating_add(usize::from(digit))
 }
 
 // The digits from a place on as a number, and the place of the first other byte.
+#[tactic(auto, using(crate::proofs::Scans::figure, crate::proofs::Scans::no_figure, crate::proofs::Scans::at_end))]
 fn take_digits(text: &[u8], at: usize) -> Scanned
     ensures { (result.value ≡ value_from 0 (drop at text.now)) × (result.next ≡ at + figures (drop at text.now)) }
 {
-    let mut n = 0;
-    let mut i = at;
-    while i < text.len() {
+    let mut value = 0;
+    for i in at..text.len() {
         let b = text[i];
-        if b < 48 {
-            return Scanned { value: n, next: i };
+        if !b.is_ascii_digit() {
+            return Scanned { value, next: i };
         }
-        if b > 57 {
-            return Scanned { value: n, next: i };
-        }
-        n = with_digit(n, b - 48);
-        i += 1;
+        value = with_digit(value, b - b'0');
     }
-    Scanned { value: n, next: i }
+    Scanned {
+        value,
+        next: at.max(text.len()),
+    }
 }
 
 // The number that begins at a place, behind any spaces, and the place after its last digit. Where no digit stands, the number is 0; one too large becomes the largest.
+#[tactic(auto, unfolding(crate::specs::Scan::value_at, crate::specs::Scan::next_at))]
 pub fn number_at(text: &[u8], at: usize) -> Scanned
     ensures { (result.value ≡ value_at text.now at) × (result.next ≡ next_at text.now at) }
 {
-    let start = skip(text, at);
-    take_digits(text, start)
+    take_digits(text, skip(text, at))
 }
 
 // As many numbers as the list has places, one behind the other from `at` on; the place after the last.
+#[tactic(auto, using(crate::proofs::Scans::next_value, crate::proofs::Scans::next_place), unfolding(crate::specs::Scan::places, crate::specs::Scan::values))]
 pub fn numbers(text: &[u8], at: usize, list: &mut [usize]) -> usize
     ensures value { result ≡ places (length list.old) text.now at }
     ensures list_after { list.new ≡ values (length list.old) text.now at }
 {
     let mut next = at;
-    let mut i = 0;
-    while i < list.len() {
-        let s = number_at(text, next);
-        list[i] = s.value;
-        next = s.next;
-        i += 1;
+    for place in list.iter_mut() {
+        let read = number_at(text, next);
+        *place = read.value;
+        next = read.next;
     }
     next
 }

@@ -8,33 +8,18 @@ use native.Mathlib.Omega.{arith}
 use lib.ListN.{length, get_or, set, take, replicate, length-set, length-replicate, get_or-replicate}
 use lib.Seq.{get_or-set_same, get_or-set_other}
 use Rattle.model.specs.Loop.{Loop, size, dep_at}
-use Rattle.descent.specs.Links.{later_end, NextDep, Linked}
+use Rattle.descent.specs.Links.{later_end, NextDep}
 use Rattle.descent.specs.Span.{WindowIs, NarrowedIs}
-use Rattle.descent.proofs.Spans.{Narrowing, apart, free_target, free_source, window_next}
+use Rattle.descent.proofs.Spans.{Narrowing, elsewhere, window_next}
 
 -- ---- the window
 
 module _ (l : Loop) (ii op : ℕ) (starts : List ℕ) (room : op ≤ length starts) (h a b : ℕ) where
   -- a dependence whose later operation is another one leaves the window as it is
   stays : (k : ℕ) → (later_end l k ≡ op → ⊥) → NarrowedIs l ii (take op starts) k a b a b
-  stays k n = pick (ℕ_discrete (dep_at l k).src op) (ℕ_discrete (dep_at l k).dst op)
-    where
-      ends : Narrowing l ii k op starts a b (dep_at l k).src (dep_at l k).dst
-      ends = record { room = room; source = refl; target = refl }
-
-      pick : Dec ((dep_at l k).src ≡ op) → Dec ((dep_at l k).dst ≡ op) → NarrowedIs l ii (take op starts) k a b a b
-      pick (yes p) (yes q) = absurd (n (omega arith))
-      pick (yes p) (no q) = free_target ends p q (late (dec_lt op (dep_at l k).dst))
-        where
-          late : Dec (op < (dep_at l k).dst) → op ≤ (dep_at l k).dst
-          late (yes m) = omega arith
-          late (no m) = absurd (n (omega arith))
-      pick (no p) (yes q) = free_source ends p q (late (dec_lt op (dep_at l k).src))
-        where
-          late : Dec (op < (dep_at l k).src) → op ≤ (dep_at l k).src
-          late (yes m) = omega arith
-          late (no m) = absurd (n (omega arith))
-      pick (no p) (no q) = apart ends p q
+  stays k n =
+      let ends : Narrowing l ii k op starts a b (dep_at l k).src (dep_at l k).dst = record { room = room; source = refl; target = refl } in
+      elsewhere ends (λ p q. omega arith) (λ p. omega arith) (λ p. omega arith)
 
   -- so do d such dependences
   passed : (k d : ℕ) → ((i : ℕ) → k ≤ i → i < k + d → later_end l i ≡ op → ⊥) → WindowIs l ii (take op starts) h k a b → WindowIs l ii (take op starts) h (k + d) a b
@@ -112,10 +97,3 @@ module _ (l : Loop) (few : size l ≤ 64) where
           let g : get_or (set links₁ o e) (64 + i) 0 ≡ get_or links (64 + i) 0 =
           get_or-set_other links₁ o (64 + i) e 0 (λ t. omega arith) ∙ get_or-set_other links (64 + e) (64 + i) (get_or links o 0) 0 (λ t. n (omega arith)) in
           subst (NextDep l (later_end l i) (i + 1)) (sym g) (made.next i (omega arith) r)
-
-  -- after the last one: all are
-  pub link_all : (links : List ℕ) (e : ℕ) → Linking l links e → e ≡ 0 → Linked l links
-  link_all links e made z = record {
-    head = λ o h. subst (λ (k : ℕ). NextDep l o k (get_or links o 0)) z (made.head o h);
-    next = λ i h. made.next i (omega arith) h;
-  }

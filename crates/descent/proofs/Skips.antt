@@ -2,53 +2,39 @@
 use mathlib.Core.Path.{◌≡◌, ap, ◌∙◌}
 use mathlib.Core.Bool.{true, false}
 use mathlib.Core.List.{List}
-use Prim.Native.Nat.{ℕ, suc, ◌+◌, ◌-◌, ◌%◌, ◌≤◌, ◌<◌}
-use native.Mathlib.Nat.{mod-lt}
+use Prim.Native.Nat.{ℕ, ◌+◌, ◌-◌, ◌%◌, ◌≤◌, ◌<◌}
 use native.Mathlib.Decide.{dec_lt}
 use native.Mathlib.Omega.{arith}
 use lib.ListN.{length, get_or}
 use borrow.Author.Tests.{ne_eqb}
-use Rattle.model.specs.Loop.{Use, UseOk, no_use}
+use Rattle.model.specs.Loop.{Use, UseOk, no_use, all_uses}
+use Rattle.model.specs.File.{loop_of, Accepted}
 use Rattle.model.specs.Table.{row_base, digit_of}
-use Rattle.model.proofs.Modular.{wrap_next, wrap_zero}
+use Rattle.model.proofs.File.{accepted_ok}
+use Rattle.model.proofs.Loop.{all_ok}
 use Rattle.reservation.specs.Place.{row_at, met_at}
 use Rattle.reservation.proofs.TakenCells.{use_early, use_over, use_self, use_bit, use_met, met_each, each_met}
-use Rattle.descent.specs.Skip.{RowBefore, UseExcluded, Excluded}
-
--- ---- one row back
-
-module _ (ii row : ℕ) (pos : 1 ≤ ii) where
-  -- from row 0 to the last one
-  pub back_zero : row ≡ 0 → RowBefore ii row (ii - 1)
-  back_zero e x h = pick (dec_lt (suc (x % ii)) ii)
-    where
-      pick : Dec (suc (x % ii) < ii) → ii - 1 ≡ x % ii
-      pick (yes l) = absurd (omega (arith, wrap_next ii x l))
-      pick (no l) = omega (arith, mod-lt x pos)
-
-  -- from another one to that before it
-  pub back_one : (row ≡ 0 → ⊥) → RowBefore ii row (row - 1)
-  back_one n x h = pick (dec_lt (suc (x % ii)) ii)
-    where
-      pick : Dec (suc (x % ii) < ii) → row - 1 ≡ x % ii
-      pick (yes l) = omega (arith, wrap_next ii x l)
-      pick (no l) = let z : x % ii + 1 ≡ ii = omega (arith, mod-lt x pos) in absurd (n (h ∙ wrap_zero ii x z))
+use Rattle.descent.specs.Skip.{UseExcluded, Excluded}
 
 -- ---- one use
+
+-- a use of an accepted file is in range
+pub use_ok : (f : List ℕ) (u : ℕ) → Accepted f → u < length (all_uses (loop_of f)) → UseOk (get_or (all_uses (loop_of f)) u no_use)
+use_ok f u a l = all_ok (loop_of f) (accepted_ok f a) u l
 
 -- the bit of its slot in the row of its cycle i
 abbrev pub bit_at : ℕ → List ℕ → ℕ → Use → ℕ → ℕ
 bit_at ii rows s u i = digit_of row_base (row_at ii rows s (u.offset + i)) u.slot
 
 module _ (ii : ℕ) (rows : List ℕ) (s : ℕ) (u : Use) (ok : UseOk u) where
-  -- that of cycle k - 1 is set: k starts are excluded
-  pub bit_excludes : (k : ℕ) → 1 ≤ k → k ≤ u.duration → bit_at ii rows s u (k - 1) ≡ 1 → UseExcluded ii rows s u k
-  bit_excludes k some l e = record {
+  -- that of cycle i is set: i + 1 starts are excluded
+  pub bit_excludes : (i : ℕ) → i < u.duration → bit_at ii rows s u i ≡ 1 → UseExcluded ii rows s u (i + 1)
+  bit_excludes i l e = record {
     few = omega (arith, ok.ends);
     free = λ z. absurd (omega arith);
     taken = λ t m.
-        let c = u.offset + (k - 1) - t in
-        let same : s + t + c ≡ s + (u.offset + (k - 1)) = omega arith in
+        let c = u.offset + i - t in
+        let same : s + t + c ≡ s + (u.offset + i) = omega arith in
         (c, omega (arith, ok.ends), use_met row_base ii (row_at ii rows (s + t) c) c u (omega arith) (omega arith) (ap (λ (x : ℕ). digit_of row_base (get_or rows (x % ii) 0) u.slot) same ∙ e));
   }
 
@@ -90,7 +76,7 @@ module _ (ii : ℕ) (rows : List ℕ) (s : ℕ) (us : List Use) where
         let k = x.taken t m in
         let f : met_at row_base ii rows (s + t) k.0 (get_or us j no_use) ≡ false = met_each row_base ii rows (s + t) us e k.0 j k.1 l in
         let y : met_at row_base ii rows (s + t) k.0 (get_or us j no_use) ≡ true = k.2 in
-        let z : ◌≡◌ {A = ℕ} 0 1 = cc in omega arith;
+        cc;
   }
 
   -- each is free

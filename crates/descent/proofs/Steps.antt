@@ -82,27 +82,27 @@ unfolding run
 spare L h m b k = pick (ltb b (tree_probes L h m)) (tree_answer L h m) (tree_probes L h m)
   where
     pick : (c : Bool) (o : Option (List ℕ)) (p : ℕ) → tell (cond c broke (rest o (b - p))) ≡ Nothing k → k ≤ b
-    pick true o p e = let z : ◌≡◌ {A = ℕ} 0 1 = cc in absurd (omega arith)
-    pick false (some a) p e = let z : ◌≡◌ {A = ℕ} 0 1 = cc in absurd (omega arith)
+    pick true o p e = cc
+    pick false (some a) p e = cc
     pick false none p e = let z : b - p ≡ k = cc in omega arith
 
 module _ (s n : ℕ) (p starts : List ℕ) (f : ℕ → Res) (whole : Res) where
   -- it finds a list: so does the whole
   all_then : (out : Res) (l : ℕ) → whole ≡ after_start s out f → tell out ≡ All l → Wrote n (p ++ s ∷ []) starts out → (All l ≡ tell whole) × Wrote n p starts whole
-  all_then broke l e q w = let z : ◌≡◌ {A = ℕ} 0 1 = cc in absurd (omega arith)
+  all_then broke l e q w = cc
   all_then (all a k) l e q w = rw e (sym q, w ∙ append_snoc p s a)
-  all_then (no_more k) l e q w = let z : ◌≡◌ {A = ℕ} 0 1 = cc in absurd (omega arith)
+  all_then (no_more k) l e q w = cc
 
   -- it spends the budget: so does the whole
   spent_then : (out : Res) → whole ≡ after_start s out f → tell out ≡ Spent → (Spent ≡ tell whole) × Wrote n p starts whole
   spent_then broke e q = rw e (refl, tt)
-  spent_then (all a k) e q = let z : ◌≡◌ {A = ℕ} 0 1 = cc in absurd (omega arith)
-  spent_then (no_more k) e q = let z : ◌≡◌ {A = ℕ} 0 1 = cc in absurd (omega arith)
+  spent_then (all a k) e q = cc
+  spent_then (no_more k) e q = cc
 
   -- it finds none: the later starts come to what the whole comes to
   none_then : (out : Res) (l : ℕ) → whole ≡ after_start s out f → tell out ≡ Nothing l → f l ≡ whole
-  none_then broke l e q = let z : ◌≡◌ {A = ℕ} 0 1 = cc in absurd (omega arith)
-  none_then (all a k) l e q = let z : ◌≡◌ {A = ℕ} 0 1 = cc in absurd (omega arith)
+  none_then broke l e q = cc
+  none_then (all a k) l e q = cc
   none_then (no_more k) l e q = let z : k ≡ l = cc in rw (e, z)
 
 -- ---- the operation after the first op starts
@@ -176,8 +176,7 @@ pub record AtStart (f starts₀ rows₀ : List ℕ) (op n ii h left from to : �
 -- the three answers of a start that was tried
 pub record AfterProbe (f starts₀ rows₀ : List ℕ) (op n ii h left : ℕ) (later rows : List ℕ) (r : Found) (s : ℕ) : Type 0 where
   pub same : rows ≡ rows₀
-  pub if_all : (k : ℕ) → r ≡ All k → Done (below f starts₀ op n ii h left) n op (take op starts₀) starts₀ later (All k)
-  pub if_spent : r ≡ Spent → Done (below f starts₀ op n ii h left) n op (take op starts₀) starts₀ later Spent
+  pub if_over : ((k : ℕ) → r ≡ Nothing k → ⊥) → Done (below f starts₀ op n ii h left) n op (take op starts₀) starts₀ later r
   pub if_none : (k : ℕ) → r ≡ Nothing k → AtProbe f starts₀ rows₀ op n ii h left later rows k (s + 1)
 
 module _ {f starts₀ rows₀ : List ℕ} {op n ii h : ℕ} (ready : Ready f starts₀ rows₀ op n ii h) where
@@ -330,12 +329,17 @@ module _ {f starts₀ rows₀ : List ℕ} {op n ii h : ℕ} (ready : Ready f sta
                 ∙ none_then s n (take op starts₀) later onward (below f starts₀ op n ii h left) (branch f starts op n ii h s (purse - 1)) k comes_to t;
           }
 
-      -- the three together
+      -- one of the two
+      over : (q : Found) → r ≡ q → ((k : ℕ) → q ≡ Nothing k → ⊥) → Done (below f starts₀ op n ii h left) n op (take op starts₀) starts₀ later q
+      over (All k) e m = finds k e
+      over Spent e m = stops e
+      over (Nothing k) e m = absurd (m k refl)
+
+      -- both together
       pub turned : {rows₁ : List ℕ} → rows₁ ≡ rows → AfterProbe f starts₀ rows₀ op n ii h left later rows₁ r s
       turned same = record {
         same = same ∙ turn.rows_same;
-        if_all = finds;
-        if_spent = stops;
+        if_over = over r refl;
         if_none = λ k. goes_on k same;
       }
 
@@ -404,7 +408,7 @@ module _ {f starts₀ rows₀ : List ℕ} {op n ii h : ℕ} (ready : Ready f sta
       breaks_above past l = runs_out at.turn (h - paid) (omega (arith, at.turn.within)) l (rest_barred past)
 
     -- a window with no start: none is barred by the rows, and all are paid for at once
-    module _ (empty : from ≡ to) where
+    module _ (empty : to ≤ from) where
       -- where the loop would begin and end
       nowhere : {left : ℕ} → AtStart f starts₀ rows₀ op n ii h left from to starts₀ rows₀ left 0 from
       nowhere = enters (record { behind = omega arith; ahead = omega arith; free = λ l. absurd (omega arith); taken = λ t l m. absurd (omega arith) })

@@ -38,8 +38,8 @@ same_list (x ∷ xs) (y ∷ ys) = eqb x y && same_list xs ys
 -- it says so exactly where they are equal
 pub same_eq : (p q : List ℕ) → same_list p q ≡ true → p ≡ q
 same_eq [] [] e = refl
-same_eq [] (y ∷ ys) e = let z : ◌≡◌ {A = ℕ} 0 1 = cc in absurd (omega arith)
-same_eq (x ∷ xs) [] e = let z : ◌≡◌ {A = ℕ} 0 1 = cc in absurd (omega arith)
+same_eq [] (y ∷ ys) e = cc
+same_eq (x ∷ xs) [] e = cc
 same_eq (x ∷ xs) (y ∷ ys) e =
     let f : x ≡ y = eqb-true x y (and_left (eqb x y) (same_list xs ys) e) in
     let g : xs ≡ ys = same_eq xs ys (and_right (eqb x y) (same_list xs ys) e) in
@@ -57,7 +57,7 @@ eq_same p q e = ap (same_list p) (sym e) ∙ same_self p
 -- what is found first is of the list
 first_counts : (p : List ℕ → Bool) (xs : List (List ℕ)) (a : List ℕ) → first p xs ≡ some a → 1 ≤ count_if (same_list a) xs
 unfolding first count_if
-first_counts p [] a e = let z : ◌≡◌ {A = ℕ} 0 1 = cc in absurd (omega arith)
+first_counts p [] a e = cc
 first_counts p (x ∷ xs) a e = pick (p x) e (first_counts p xs a)
   where
     pick : (b : Bool) → cond b (some x) (first p xs) ≡ some a → (first p xs ≡ some a → 1 ≤ count_if (same_list a) xs)
@@ -191,7 +191,7 @@ unfolding first tree
 tree_first p h n a b ord e l w t = pick (p []) refl e
   where
     longer : (c : List ℕ) → p [] ≡ false → p c ≡ true → 1 ≤ length c
-    longer [] f g = let z : ◌≡◌ {A = ℕ} 0 1 = cc in absurd (omega arith)
+    longer [] f g = cc
     longer (x ∷ c) f g = omega arith
 
     pick : (c : Bool) → p [] ≡ c → cond c (some []) (first p (words h n)) ≡ some a → not_after a b ≡ true
@@ -214,9 +214,9 @@ after_both (x ∷ xs) (y ∷ ys) l p q = pick (dec_lt x y) (dec_lt y x) (after_b
   where
     pick : Dec (x < y) → Dec (y < x) → (not_after xs ys ≡ true → not_after ys xs ≡ true → xs ≡ ys) → x ∷ xs ≡ y ∷ ys
     pick (yes m) d ih =
-        let z : false ≡ true = rw (le-ltb y x (omega arith), ne_eqb y x (λ e. omega arith)) at q in let w : ◌≡◌ {A = ℕ} 0 1 = cc in absurd (omega arith)
+        let z : false ≡ true = rw (le-ltb y x (omega arith), ne_eqb y x (λ e. omega arith)) at q in cc
     pick (no m) (yes n) ih =
-        let z : false ≡ true = rw (le-ltb x y (omega arith), ne_eqb x y (λ e. omega arith)) at p in let w : ◌≡◌ {A = ℕ} 0 1 = cc in absurd (omega arith)
+        let z : false ≡ true = rw (le-ltb x y (omega arith), ne_eqb x y (λ e. omega arith)) at p in cc
     pick (no m) (no n) ih =
         let e : x ≡ y = omega arith in
         let f : not_after xs ys ≡ true = rw (le-ltb x y (omega arith), eq-eqb x y e) at p in
@@ -237,8 +237,7 @@ branch_none : (p : List ℕ → Bool) (h n s x : ℕ) (b : List ℕ) → any_of 
 branch_none p h n s x b e (inl q) l w t =
     let f : p (s ∷ b) ≡ false = tree_none (λ v. p (s ∷ v)) h n b e l w in
     let g : p (s ∷ b) ≡ true = ap (λ (y : ℕ). p (y ∷ b)) q ∙ t in
-    let z : ◌≡◌ {A = ℕ} 0 1 = cc in
-    absurd (omega arith)
+    cc
 branch_none p h n s x b e (inr q) l w t = q
 
 -- found in one of the branches
@@ -304,5 +303,4 @@ none_answer L h n f = pick (answer L h n) refl
         let g = answer_is L h n a e in
         let i : L a ≡ true = g.2 in
         let j : L a ≡ false = f a g.0 g.1 in
-        let z : ◌≡◌ {A = ℕ} 0 1 = cc in
-        absurd (omega arith)
+        cc

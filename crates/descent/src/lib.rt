@@ -20,6 +20,7 @@ use reservation::cells::{release, reserve};
 pub use window::earliest;
 
 // What a part of the search comes to: every operation has a start, and so much is left of the budget; the budget is spent; there is no list, and so much is left.
+// Three outcomes, of which the caller tells each from the others: no Option or Result.
 #[derive(Clone, Copy)]
 pub enum Found {
     All(usize),
@@ -82,7 +83,7 @@ fn pick(
         if purse <= passed {
             return Found::Spent;
         }
-        let f = try_start(
+        match try_start(
             file,
             rows,
             s,
@@ -94,26 +95,19 @@ fn pick(
             n,
             interval,
             horizon,
-        );
-        match f {
-            Found::All(l) => {
-                return Found::All(l);
-            }
-            Found::Spent => {
-                return Found::Spent;
-            }
-            Found::Nothing(l) => {
-                purse = l;
-            }
+        ) {
+            Found::Nothing(l) => purse = l,
+            found => return found,
         }
         paid = s + 1;
         s = next_free(file, op, first, paid, w.to, interval, rows);
     }
     let above = horizon - paid;
     if purse < above {
-        return Found::Spent;
+        Found::Spent
+    } else {
+        Found::Nothing(purse - above)
     }
-    Found::Nothing(purse - above)
 }
 
 // Operation `op` at s, which its window has, and the operations after it. The probe is paid for. Whether the rows leave s free is asked here, of any start of the window.
@@ -144,11 +138,12 @@ fn try_start(
         return Found::All(left);
     }
     let w = window_of(file, links, op + 1, starts, interval, horizon);
-    if w.from == w.to {
-        if left < horizon {
-            return Found::Spent;
-        }
-        return Found::Nothing(left - horizon);
+    if w.is_empty() {
+        return if left < horizon {
+            Found::Spent
+        } else {
+            Found::Nothing(left - horizon)
+        };
     }
     reserve(file, op, first, s, interval, rows);
     let next = first + use_count(file, op);

@@ -1,6 +1,8 @@
 // The starts that the rows exclude, many at a time. A use that meets a taken cell in its cycle k meets it at each of the next k starts too, until that cell lies before its
 // first cycle; so the cycles of a use are looked at from the last one back. The number of the operation's first use, `first`, is handed in. Internal: each function asks
 // for an accepted file and for rows that reach to the interval.
+#![tactic(auto, using(crate::proofs::Skips::use_ok, crate::proofs::Skips::uses_free))]
+
 ghost use Rattle.std.specs.Prelude.{◌<◌, ◌≤◌, length, get_or};
 ghost use Rattle.model.specs.Loop.{no_use, op_at, all_uses};
 ghost use Rattle.model.specs.File.{loop_of, Accepted};
@@ -13,10 +15,7 @@ fn row_before(row: usize, interval: usize) -> usize
     requires { row < interval }
     ensures { RowBefore interval row result }
 {
-    if row == 0 {
-        return interval - 1;
-    }
-    row - 1
+    if row == 0 { interval - 1 } else { row - 1 }
 }
 
 // How many starts from `start` on the rows exclude for use u of all; 0 where they leave it free at `start`. A use longer than the interval meets itself.
@@ -26,17 +25,16 @@ fn use_excluded(file: &[u8], u: usize, start: usize, interval: usize, rows: &[u6
 {
     let place = slot(file, u) - 1;
     let from = start + offset(file, u);
-    let mut k = duration(file, u);
-    if interval < k {
+    let n = duration(file, u);
+    if interval < n {
         return 1;
     }
-    let mut row = (from + k) % interval;
-    while 0 < k {
+    let mut row = (from + n) % interval;
+    for k in (0..n).rev() {
         row = row_before(row, interval);
         if (rows[row] >> place) & 1 == 1 {
-            return k;
+            return k + 1;
         }
-        k = k - 1;
     }
     0
 }
@@ -53,14 +51,11 @@ pub fn excluded(
     requires { RowsOf file.now rows.now op first interval × (start ≤ 4096) }
     ensures { Excluded interval rows.now start (op_at (loop_of file.now) op).uses result }
 {
-    let n = use_count(file, op);
-    let mut j = 0;
-    while j < n {
+    for j in 0..use_count(file, op) {
         let k = use_excluded(file, first + j, start, interval, rows);
         if 0 < k {
             return k;
         }
-        j = j + 1;
     }
     0
 }
@@ -84,7 +79,7 @@ pub fn next_free(
         if k == 0 {
             return s;
         }
-        s = s + k;
+        s += k;
     }
     to
 }

@@ -1,6 +1,8 @@
 // The window of an operation: the starts that its dependences with itself and with earlier operations allow. It is worked out once for each operation chosen, so that the
 // starts outside it are paid for at once. Internal: each function asks for an accepted file.
-ghost use Rattle.std.specs.Prelude.{◌≡◌, ◌<◌, ◌≤◌, length, take};
+#![tactic(auto, using(model::proofs::File::accepted_ok))]
+
+ghost use Rattle.std.specs.Prelude.{◌≡◌, ◌<◌, ◌≤◌, ◌↔◌, IsTrue, length, take};
 ghost use Rattle.model.specs.Loop.{size};
 ghost use Rattle.model.specs.File.{loop_of, Accepted};
 ghost use Rattle.descent.specs.Span.{EarliestIs, TooLateIs, NarrowedIs, Windowed, Early};
@@ -15,6 +17,15 @@ pub struct Window {
     pub to: usize,
 }
 
+impl Window {
+    // Whether it has no start.
+    pub fn is_empty(self) -> bool
+        ensures { IsTrue result ↔ self.to ≤ self.from }
+    {
+        self.to <= self.from
+    }
+}
+
 // The first start of dependence e's target that it allows, with its source at `start`.
 pub fn earliest(file: &[u8], e: usize, start: usize, interval: usize) -> usize
     requires { Accepted file.now × (e < length (loop_of file.now).deps) × (start < 4096) × (interval ≤ 4096) }
@@ -22,10 +33,7 @@ pub fn earliest(file: &[u8], e: usize, start: usize, interval: usize) -> usize
 {
     let lag = interval * distance(file, e);
     let due = start as i32 + delay(file, e) - lag as i32;
-    if due < 0 {
-        return 0;
-    }
-    due as usize
+    if due < 0 { 0 } else { due as usize }
 }
 
 // The first start of dependence e's source that it does not allow, with its target at `start`.
@@ -35,10 +43,7 @@ fn too_late(file: &[u8], e: usize, start: usize, interval: usize) -> usize
 {
     let lag = interval * distance(file, e);
     let last = start as i32 + lag as i32 - delay(file, e);
-    if last < 0 {
-        return 0;
-    }
-    last as usize + 1
+    if last < 0 { 0 } else { last as usize + 1 }
 }
 
 // The window, narrowed by dependence e where it is one of the operation with itself or an earlier one.
@@ -55,39 +60,27 @@ fn narrowed(
 {
     let from = source(file, e);
     let to = target(file, e);
-    if from == op {
-        if to == op {
-            if too_late(file, e, 0, interval) == 0 {
-                return Window {
-                    from: w.from,
-                    to: 0,
-                };
-            }
-            return w;
+    if from == op && to == op {
+        if too_late(file, e, 0, interval) == 0 {
+            Window { to: 0, ..w }
+        } else {
+            w
         }
-        if to < op {
-            let end = too_late(file, e, starts[to] as usize, interval);
-            if end < w.to {
-                return Window {
-                    from: w.from,
-                    to: end,
-                };
-            }
+    } else if from == op && to < op {
+        let end = too_late(file, e, usize::from(starts[to]), interval);
+        Window {
+            to: w.to.min(end),
+            ..w
         }
-        return w;
+    } else if to == op && from < op {
+        let begin = earliest(file, e, usize::from(starts[from]), interval);
+        Window {
+            from: w.from.max(begin),
+            ..w
+        }
+    } else {
+        w
     }
-    if to == op {
-        if from < op {
-            let begin = earliest(file, e, starts[from] as usize, interval);
-            if w.from < begin {
-                return Window {
-                    from: begin,
-                    to: w.to,
-                };
-            }
-        }
-    }
-    w
 }
 
 // The later of the two operations of dependence e. It is chosen last, so it is the one whose window the dependence narrows.
@@ -95,12 +88,7 @@ fn later_end(file: &[u8], e: usize) -> usize
     requires { Accepted file.now × (e < length (loop_of file.now).deps) }
     ensures { result ≡ later_end (loop_of file.now) e }
 {
-    let from = source(file, e);
-    let to = target(file, e);
-    if from < to {
-        return to;
-    }
-    from
+    source(file, e).max(target(file, e))
 }
 
 // The dependences by their later operation, so that the window of one is found without those of the others. Entry o is the first dependence whose later operation is o,
@@ -111,9 +99,7 @@ pub fn link(file: &[u8]) -> [u16; 320]
 {
     let m = dep_count(file);
     let mut links = [m as u16; 320];
-    let mut e = m;
-    while 0 < e {
-        e = e - 1;
+    for e in (0..m).rev() {
         let o = later_end(file, e);
         links[64 + e] = links[o];
         links[o] = e as u16;
@@ -138,16 +124,17 @@ pub fn window_of(
         from: 0,
         to: horizon,
     };
-    let mut e = links[op] as usize;
+    let mut e = usize::from(links[op]);
     while e < m {
         w = narrowed(file, e, op, starts, interval, w);
-        e = links[64 + e] as usize;
+        e = usize::from(links[64 + e]);
     }
-    if w.to <= w.from {
-        return Window {
+    if w.is_empty() {
+        Window {
             from: horizon,
             to: horizon,
-        };
+        }
+    } else {
+        w
     }
-    w
 }

@@ -1,36 +1,35 @@
 -- What a call comes to for the numbers: what it did to the starts is what it did to what is held, and so to what is free. Assumes nothing.
 use mathlib.Core.Path.{◌≡◌, refl, sym, ap, ◌∙◌}
 use mathlib.Core.Bool.{Bool, true, false, cond}
-use mathlib.Core.List.{List, [], ◌∷◌}
-use mathlib.Core.Logic.{inl, inr}
-use mathlib.Core.Option.{Option, none, some}
+use mathlib.Core.List.{List}
+use mathlib.Core.Option.{none}
 use Prim.Native.Nat.{ℕ, zero, suc, ◌+◌, ◌*◌, ◌/◌, ◌%◌, ◌^◌, ◌≤◌, ◌<◌}
-use denote.Enum.Declared.{tag_of}
-use types.Run.{OneOf}
 use native.Mathlib.Numerals.{add-one}
 use native.Mathlib.Omega.{arith}
 use lib.Dec.{eqb}
 use lib.ListN.{length, get_or}
 use Rattle.model.specs.Lists.{up_from, sum_of}
-use Rattle.model.specs.Refusals.{Refusal, first_refusal, Answer, answered}
+use Rattle.model.specs.Refusals.{first_refusal, Answer, answered}
 use Rattle.model.specs.Loop.{size, op_at, op_on}
 use Rattle.model.specs.File.{loop_of, Accepted}
 use Rattle.model.specs.Table.{number, free_of, free_rows}
 use Rattle.model.specs.Counts.{held_on}
-use Rattle.model.specs.Session.{Starts, State, Call, place, force, remove, Reply, done, displaced, placed_in, checks, effect, in_the_way, mask_of}
+use Rattle.model.specs.Session.{Starts, State, Call, place, force, remove, Reply, displaced, placed_in, checks, effect, in_the_way, mask_of}
 use Rattle.model.proofs.Lists.{sum_same}
 use Rattle.model.proofs.Sums.{sum_next}
 use Rattle.model.proofs.File.{accepted_ok}
 use Rattle.model.proofs.Table.{number_digit, number_lt}
-use Rattle.model.proofs.Session.{step_done, step_refused, answered_passes}
+use Rattle.model.proofs.Session.{step_done, answered_passes}
 use Rattle.model.proofs.Good.{new_passed}
 use Rattle.model.proofs.Free.{free_length, free_at, free_same, is_free, held_placed, held_removed, held_without, held_forced}
 use Rattle.reservation.specs.Seats.{seats}
 use Rattle.board.specs.Board.{starts_of, setup_as, bare, Board}
-use Rattle.board.specs.Moves.{reply_of, Did}
+use Rattle.std.specs.Prelude.{Result, Ok, Err}
+use Rattle.refusals.specs.Told.{told}
+use Rattle.refusals.specs.declared.Refusal as code
+use Rattle.board.specs.Moves.{said, reply_of, Did}
 use Rattle.board.specs.declared.Reply as declared
 use Rattle.board.specs.declared.Reply.TheVariants as reply
-use Rattle.board.specs.contracts.Reply as tags
 use Rattle.board.proofs.Boards.{same_seats, sane_good}
 use Rattle.board.proofs.Effects.{remove_inside}
 use Rattle.free_rows.specs.Numbers.{Room, Moved, named_on}
@@ -64,47 +63,31 @@ mask_named w n p l = rw (mask_number w n, number_digit 2 (λ p. cond (w p) 1 0) 
     same true = refl
     same false = refl
 
--- ---- answers by their tags
-
--- an answer with another tag than that of `done`, and than that of `displaced`
-pub other_done : (r : declared.Reply) → OneOf (1 ∷ 2 ∷ 3 ∷ []) (tag_of tags.the_type r) → reply_of r ≡ answered done → ⊥
-other_done reply.Done (inl k) e = omega arith
-other_done reply.Done (inr (inl k)) e = omega arith
-other_done reply.Done (inr (inr k)) e = omega arith
-other_done (reply.Displaced m) k e = let z : ◌≡◌ {A = ℕ} 0 1 = cc in omega arith
-other_done (reply.Numbered m) k e = let z : ◌≡◌ {A = ℕ} 0 1 = cc in omega arith
-other_done (reply.Refused n m) k e = let z : ◌≡◌ {A = ℕ} 0 1 = cc in omega arith
-
-pub other_displaced : (r : declared.Reply) (x : ℕ) → OneOf (0 ∷ 2 ∷ 3 ∷ []) (tag_of tags.the_type r) → reply_of r ≡ answered (displaced x) → ⊥
-other_displaced reply.Done x k e = let z : ◌≡◌ {A = ℕ} 0 1 = cc in omega arith
-other_displaced (reply.Displaced m) x (inl k) e = omega arith
-other_displaced (reply.Displaced m) x (inr (inl k)) e = omega arith
-other_displaced (reply.Displaced m) x (inr (inr k)) e = omega arith
-other_displaced (reply.Numbered m) x k e = let z : ◌≡◌ {A = ℕ} 0 1 = cc in omega arith
-other_displaced (reply.Refused n m) x k e = let z : ◌≡◌ {A = ℕ} 0 1 = cc in omega arith
-
 -- ---- a call that was answered
 
 -- what is held of slot s by an array of starts
 abbrev held_by : List ℕ → List ℕ → ℕ → ℕ
 held_by f xs s = held_on (loop_of f) (placed_in (starts_of (size (loop_of f)) xs)) s
 
-module _ {c : Call} {f : List ℕ} {ii h : ℕ} {xs rows xs' rows' : List ℕ} {r : declared.Reply} (d : Did c f ii h xs rows xs' rows' r) where
-  -- it passed its checks, and the starts are those of its effect
-  passed : (x : Reply) → reply_of r ≡ answered x → first_refusal (checks (setup_as f ii h) c (bare f xs)) ≡ none
-  passed x e = answered_passes (setup_as f ii h) c (bare f xs) x (sym d.reply ∙ e)
+module _ {c : Call} {f : List ℕ} {ii h : ℕ} {xs rows xs' rows' : List ℕ} {r : Result declared.Reply code.Refusal} (d : Did c f ii h xs rows xs' rows' r) where
+  -- one that was refused left the rows, and the numbers stay as they are
+  pub refused_free : {e : code.Refusal} {free : List ℕ} → r ≡ Err e → free ≡ free_rows ii rows → free ≡ free_rows ii rows'
+  refused_free {e} q is = is ∙ ap (free_rows ii) (sym (d.kept (told e) (ap reply_of q)).1)
 
-  effected : (x : Reply) → reply_of r ≡ answered x → starts_of (size (loop_of f)) xs' ≡ (effect (setup_as f ii h) c (bare f xs)).0.starts
-  effected x e = d.starts_are ∙ ap (λ (p : State × Answer Reply). p.0.starts) (step_done (setup_as f ii h) c (bare f xs) (passed x e))
+  module _ {x : declared.Reply} (q : r ≡ Ok x) where
+    -- one that was not passed its checks
+    passed : first_refusal (checks (setup_as f ii h) c (bare f xs)) ≡ none
+    passed = answered_passes (setup_as f ii h) c (bare f xs) (said x) (sym d.reply ∙ ap reply_of q)
 
-  -- one that was not answered as its effect answers was refused, and the numbers stay as they are
-  pub else_free : (free : List ℕ) → free ≡ free_rows ii rows → (reply_of r ≡ answered (effect (setup_as f ii h) c (bare f xs)).1 → ⊥) → free ≡ free_rows ii rows'
-  else_free free e n = pick (first_refusal (checks (setup_as f ii h) c (bare f xs))) refl
-    where
-      pick : (o : Option Refusal) → first_refusal (checks (setup_as f ii h) c (bare f xs)) ≡ o → free ≡ free_rows ii rows'
-      pick none q = absurd (n (d.reply ∙ ap (λ (p : State × Answer Reply). p.1) (step_done (setup_as f ii h) c (bare f xs) q)))
-      pick (some x) q =
-          e ∙ ap (free_rows ii) (sym (d.kept x (d.reply ∙ ap (λ (p : State × Answer Reply). p.1) (step_refused (setup_as f ii h) c (bare f xs) x q))).1)
+    -- and its answer and the starts are those of its effect
+    replied : said x ≡ (effect (setup_as f ii h) c (bare f xs)).1
+    replied = same _ _ (sym (ap reply_of q) ∙ d.reply ∙ ap (λ (p : State × Answer Reply). p.1) (step_done (setup_as f ii h) c (bare f xs) passed))
+      where
+        same : (a b : Reply) → answered a ≡ answered b → a ≡ b
+        same a b e = cc
+
+    effected : starts_of (size (loop_of f)) xs' ≡ (effect (setup_as f ii h) c (bare f xs)).0.starts
+    effected = d.starts_are ∙ ap (λ (p : State × Answer Reply). p.0.starts) (step_done (setup_as f ii h) c (bare f xs) passed)
 
 -- ---- the balance of a call
 
@@ -125,8 +108,8 @@ balance {ii = ii} {rows' = rows'} b b' free e i gone came l q = omega (arith, wi
 
 -- ---- placing
 
-module _ {f : List ℕ} {ii h o t : ℕ} {xs rows xs' rows' : List ℕ} {r : declared.Reply} (b : Board f ii h xs rows) (d : Did (place o t) f ii h xs rows xs' rows' r)
-    (q : reply_of r ≡ answered done) (free : List ℕ) (e : free ≡ free_rows ii rows) where
+module _ {f : List ℕ} {ii h o t : ℕ} {xs rows xs' rows' : List ℕ} {r : Result declared.Reply code.Refusal} {x : declared.Reply} (b : Board f ii h xs rows) (d : Did (place o t) f ii h xs rows xs' rows' r)
+    (q : r ≡ Ok x) (free : List ℕ) (e : free ≡ free_rows ii rows) where
   placed_balance : (i : ℕ) → i < 24 → get_or free i 0 ≡ op_on (suc i) (op_at (loop_of f) o) + free_of ii rows' (suc i)
   placed_balance i l =
       omega (
@@ -134,8 +117,8 @@ module _ {f : List ℕ} {ii h o t : ℕ} {xs rows xs' rows' : List ℕ} {r : dec
         balance b d.board free e i 0 (op_on (suc i) (op_at (loop_of f) o)) l
             (omega (
               arith,
-              ap (λ (ys : Starts). held_on (loop_of f) (placed_in ys) (suc i)) (effected d done q)
-                  ∙ held_placed (setup_as f ii h) (bare f xs) (sane_good f b.accepted b.sane).whole (suc i) o t (passed d done q),
+              ap (λ (ys : Starts). held_on (loop_of f) (placed_in ys) (suc i)) (effected d q)
+                  ∙ held_placed (setup_as f ii h) (bare f xs) (sane_good f b.accepted b.sane).whole (suc i) o t (passed d q),
             )),
       )
 
@@ -143,7 +126,7 @@ module _ {f : List ℕ} {ii h o t : ℕ} {xs rows xs' rows' : List ℕ} {r : dec
   pub placed_room : Accepted f × (o < size (loop_of f)) × Room true (λ s. op_on s (op_at (loop_of f) o)) free
   placed_room = (
     b.accepted,
-    (new_passed (setup_as f ii h) (bare f xs) o t _ (passed d done q)).inside,
+    (new_passed (setup_as f ii h) (bare f xs) o t _ (passed d q)).inside,
     record {
       whole = all_there b free e;
       enough = λ i l. omega (arith, placed_balance i l);
@@ -156,18 +139,18 @@ module _ {f : List ℕ} {ii h o t : ℕ} {xs rows xs' rows' : List ℕ} {r : dec
 
 -- ---- removing
 
-module _ {f : List ℕ} {ii h o : ℕ} {xs rows xs' rows' : List ℕ} {r : declared.Reply} (b : Board f ii h xs rows) (d : Did (remove o) f ii h xs rows xs' rows' r)
-    (q : reply_of r ≡ answered done) (free : List ℕ) (e : free ≡ free_rows ii rows) where
+module _ {f : List ℕ} {ii h o : ℕ} {xs rows xs' rows' : List ℕ} {r : Result declared.Reply code.Refusal} {x : declared.Reply} (b : Board f ii h xs rows) (d : Did (remove o) f ii h xs rows xs' rows' r)
+    (q : r ≡ Ok x) (free : List ℕ) (e : free ≡ free_rows ii rows) where
   removed_held : (i : ℕ) → held_by f xs (suc i) ≡ op_on (suc i) (op_at (loop_of f) o) + held_by f xs' (suc i)
   removed_held i =
-      held_removed (setup_as f ii h) (bare f xs) (sane_good f b.accepted b.sane).whole (suc i) o (passed d done q)
-      ∙ ap (λ (ys : Starts). op_on (suc i) (op_at (loop_of f) o) + held_on (loop_of f) (placed_in ys) (suc i)) (sym (effected d done q))
+      held_removed (setup_as f ii h) (bare f xs) (sane_good f b.accepted b.sane).whole (suc i) o (passed d q)
+      ∙ ap (λ (ys : Starts). op_on (suc i) (op_at (loop_of f) o) + held_on (loop_of f) (placed_in ys) (suc i)) (sym (effected d q))
 
   -- what counting it asks: each number has room for what it held
   pub removed_room : Accepted f × (o < size (loop_of f)) × Room false (λ s. op_on s (op_at (loop_of f) o)) free
   removed_room = (
     b.accepted,
-    remove_inside b o (passed d done q),
+    remove_inside b o (passed d q),
     record {
       whole = all_there b free e;
       enough = λ i l. omega arith;
@@ -182,8 +165,18 @@ module _ {f : List ℕ} {ii h o : ℕ} {xs rows xs' rows' : List ℕ} {r : decla
 
 -- ---- forcing
 
-module _ {f : List ℕ} {ii h o t m : ℕ} {xs rows xs' rows' : List ℕ} {r : declared.Reply} (b : Board f ii h xs rows) (d : Did (force o t) f ii h xs rows xs' rows' r)
-    (q : reply_of r ≡ answered (displaced m)) (free : List ℕ) (e : free ≡ free_rows ii rows) where
+-- one that was done answers the displaced
+pub forced_displaces : {f : List ℕ} {ii h o t : ℕ} {xs rows xs' rows' : List ℕ} {r : Result declared.Reply code.Refusal} {x : declared.Reply} → Did (force o t) f ii h xs rows xs' rows' r → r ≡ Ok x
+    → ((m : ℕ) → x ≡ reply.Displaced m → ⊥) → ⊥
+forced_displaces {x = x} d q n = go x (replied d q) n
+  where
+    go : (x : declared.Reply) {m : ℕ} → said x ≡ displaced m → ((m : ℕ) → x ≡ reply.Displaced m → ⊥) → ⊥
+    go reply.Done e n = cc
+    go (reply.Displaced m) e n = n m refl
+    go (reply.Numbered k) e n = cc
+
+module _ {f : List ℕ} {ii h o t m : ℕ} {xs rows xs' rows' : List ℕ} {r : Result declared.Reply code.Refusal} (b : Board f ii h xs rows) (d : Did (force o t) f ii h xs rows xs' rows' r)
+    (q : r ≡ Ok (reply.Displaced m)) (free : List ℕ) (e : free ≡ free_rows ii rows) where
   -- which operations were displaced
   abbrev goes : ℕ → Bool
   goes p = in_the_way (setup_as f ii h) (bare f xs).starts o t p
@@ -192,10 +185,10 @@ module _ {f : List ℕ} {ii h o t m : ℕ} {xs rows xs' rows' : List ℕ} {r : d
   mask_is : m ≡ sum_of (λ p. cond (goes p) (2 ^ p) 0) (up_from 0 (size (loop_of f)))
   unfolding mask_of
   mask_is =
-      same m _ (sym q ∙ d.reply ∙ ap (λ (p : State × Answer Reply). p.1) (step_done (setup_as f ii h) (force o t) (bare f xs) (passed d (displaced m) q)))
+      same m _ (replied d q)
       ∙ ap (λ (n : ℕ). sum_of (λ p. cond (goes p) (2 ^ p) 0) (up_from 0 n)) (sane_good f b.accepted b.sane).whole
     where
-      same : (x y : ℕ) → answered (displaced x) ≡ answered (displaced y) → x ≡ y
+      same : (x y : ℕ) → displaced x ≡ displaced y → x ≡ y
       same x y e = cc
 
   -- what it names is what goes
@@ -213,7 +206,7 @@ module _ {f : List ℕ} {ii h o t m : ℕ} {xs rows xs' rows' : List ℕ} {r : d
   forced_balance : (i : ℕ) → i < 24 → get_or free i 0 + named_on (loop_of f) m (suc i) (size (loop_of f)) ≡ op_on (suc i) (op_at (loop_of f) o) + free_of ii rows' (suc i)
   forced_balance i l =
       balance b d.board free e i (named_on (loop_of f) m (suc i) (size (loop_of f))) (op_on (suc i) (op_at (loop_of f) o)) l
-      (rw (named_is (suc i), effected d (displaced m) q) (held_forced (setup_as f ii h) (bare f xs) (sane_good f b.accepted b.sane).whole (suc i) o t (passed d (displaced m) q)))
+      (rw (named_is (suc i), effected d q) (held_forced (setup_as f ii h) (bare f xs) (sane_good f b.accepted b.sane).whole (suc i) o t (passed d q)))
 
   -- what counting them asks: the mask names no operation past the last, and each number has room for what they held
   pub gone_room : Accepted f × (m < 2 ^ size (loop_of f)) × Room false (λ s. named_on (loop_of f) m s (size (loop_of f))) free
@@ -232,7 +225,7 @@ module _ {f : List ℕ} {ii h o t m : ℕ} {xs rows xs' rows' : List ℕ} {r : d
     pub forced_room : Accepted f × (o < size (loop_of f)) × Room true (λ s. op_on s (op_at (loop_of f) o)) free₁
     forced_room = (
       b.accepted,
-      (new_passed (setup_as f ii h) (bare f xs) o t _ (passed d (displaced m) q)).inside,
+      (new_passed (setup_as f ii h) (bare f xs) o t _ (passed d q)).inside,
       record {
         whole = g.whole;
         enough = λ i l. omega (arith, g.at i l, forced_balance i l);

@@ -12,9 +12,14 @@ use lib.ListN.{length, get_or, set, length-set}
 use lib.Pow.{pow_pos, pow_mono}
 use lib.Seq.{get_or-set_same, get_or-set_other}
 use Rattle.model.specs.Lists.{up_from, sum_of}
-use Rattle.model.specs.Loop.{Use, Op, Loop, no_use, op_at, use_at, use_on, op_on, UseOk}
+use Rattle.model.specs.Loop.{Use, Op, Loop, size, no_use, first_use_of, op_at, use_at, all_uses, use_on, op_on, UseOk}
+use Rattle.model.specs.File.{loop_of, Accepted}
 use Rattle.model.proofs.Lists.{up_from_split, sum_append, sum_none, sum_places}
 use Rattle.model.proofs.Sums.{sum_next, sum_part}
+use Rattle.model.proofs.File.{accepted_ok}
+use Rattle.model.proofs.Loop.{all_ok}
+use Rattle.reservation.proofs.UseNumbers.{OwnUses, own_at}
+use Rattle.reservation.proofs.Ranges.{uses_end}
 use Rattle.free_rows.specs.Numbers.{Room, Moved, named_on}
 
 -- ---- a change by an amount for each slot
@@ -60,11 +65,11 @@ pub uses_all : (p : Op) (s : ℕ) → uses_on p (length p.uses) s ≡ op_on s p
 uses_all p s = sym (sum_places (use_on s) p.uses no_use)
 
 -- use j adds what it holds to those before it
-pub uses_next : (p : Op) (j s : ℕ) → uses_on p (j + 1) s ≡ uses_on p j s + use_on s (use_at p j)
+uses_next : (p : Op) (j s : ℕ) → uses_on p (j + 1) s ≡ uses_on p j s + use_on s (use_at p j)
 uses_next p j s = sum_next (λ k. use_on s (use_at p k)) j
 
 -- and is one of all
-pub uses_part : (p : Op) (j s : ℕ) → j < length p.uses → uses_on p j s + use_on s (use_at p j) ≤ op_on s p
+uses_part : (p : Op) (j s : ℕ) → j < length p.uses → uses_on p j s + use_on s (use_at p j) ≤ op_on s p
 uses_part p j s l = omega (arith, uses_all p s, sum_part (λ k. use_on s (use_at p k)) j (length p.uses) l)
 
 -- ---- one use
@@ -91,6 +96,26 @@ moved_use {comes} {u} free v ok w e = record { whole = rw length-set w; at = λ 
     pick i l (yes q) = rw (q, own_slot u ok.slot_low, get_or-set_same free (u.slot - 1) v 0 (omega arith)) e
     pick i l (no n) =
         rw (ne_eqb u.slot (suc i) (λ q. n (omega arith)), get_or-set_other free (u.slot - 1) i v 0 n)
+
+-- use number u of all, which is one of operation o's, is in range
+pub turn_ok : (f : List ℕ) (o first n u : ℕ) → Accepted f → o < size (loop_of f) → first ≡ first_use_of (loop_of f) o → n ≡ length (op_at (loop_of f) o).uses → u < first + n
+    → UseOk (get_or (all_uses (loop_of f)) u no_use)
+turn_ok f o first n u a l p q h = all_ok (loop_of f) (accepted_ok f a) u (omega (arith, uses_end f o a l))
+
+-- its turn
+module _ {f : List ℕ} {o first n : ℕ} (own : OwnUses f o first n) (u : ℕ) (low : first ≤ u) (high : u < first + n) where
+  module _ {comes : Bool} {free₀ free : List ℕ} (m : Moved comes (uses_on (op_at (loop_of f) o) (u - first)) free₀ free) where
+    -- there is room for it
+    pub turn_room : Room comes (λ s. op_on s (op_at (loop_of f) o)) free₀ → Room comes (λ s. use_on s (get_or (all_uses (loop_of f)) u no_use)) free
+    turn_room r =
+        subst (λ (v : Use). Room comes (λ s. use_on s v) free) (own_at own u low high)
+        (room_after (λ s. uses_part (op_at (loop_of f) o) (u - first) s (omega (arith, own.count))) r m)
+
+    -- it changes the numbers by what it holds
+    pub turn_next : {free' : List ℕ} → Moved comes (λ s. use_on s (get_or (all_uses (loop_of f)) u no_use)) free free' → Moved comes (uses_on (op_at (loop_of f) o) (u + 1 - first)) free₀ free'
+    turn_next h =
+        let e : u + 1 - first ≡ u - first + 1 = omega arith in
+        rw e (moved_more (λ s. uses_next (op_at (loop_of f) o) (u - first) s ∙ ap (λ (v : Use). uses_on (op_at (loop_of f) o) (u - first) s + use_on s v) (own_at own u low high)) m h)
 
 -- ---- the operations of a mask
 

@@ -1,8 +1,8 @@
 // How many rows each slot has free (document 02, order 4): 24 numbers beside starts and rows, of slots 1 to 24, changed by the durations of the operations that come and go. No function
 // goes over rows. Internal: each asks for the numbers of the rows that it is given, and leaves those of the rows that it leaves.
-#![tactic(auto)]
+#![tactic(auto, using(reservation::proofs::Ranges::ranges))]
 
-ghost use Rattle.std.specs.Prelude.{◌≡◌, false, cond, ◌+◌, ◌^◌, ◌≤◌, ◌<◌, length, take};
+ghost use Rattle.std.specs.Prelude.{◌≡◌, false, cond, ◌+◌, ◌^◌, ◌≤◌, ◌<◌};
 ghost use Rattle.model.specs.Loop.{size, op_at, op_on};
 ghost use Rattle.model.specs.File.{loop_of, Accepted};
 ghost use Rattle.model.specs.Table.{free_rows};
@@ -13,6 +13,7 @@ ghost use Rattle.free_rows.specs.Numbers.{Room, Moved, named_on};
 
 use board::{Reply, moves};
 use loop_access::{duration, first_use, slot, use_count};
+use refusals::Refusal;
 
 // A number of free rows after a use of so many cycles comes or goes.
 fn moved(free: u16, cycles: u16, comes: bool) -> u16
@@ -28,13 +29,9 @@ fn count(file: &[u8], op: usize, comes: bool, free: &mut [u16; 24])
     ensures { Moved comes (λ s. op_on s (op_at (loop_of file.now) op)) free.old free.new }
 {
     let first = first_use(file, op);
-    let n = use_count(file, op);
-    let mut j = 0;
-    while j < n {
-        let at = slot(file, first + j) - 1;
-        let cycles = duration(file, first + j) as u16;
-        free[at] = moved(free[at], cycles, comes);
-        j = j + 1;
+    for u in first..first + use_count(file, op) {
+        let number = &mut free[slot(file, u) - 1];
+        *number = moved(*number, duration(file, u) as u16, comes);
     }
 }
 
@@ -49,15 +46,14 @@ fn count_gone(file: &[u8], mask: u64, free: &mut [u16; 24])
         if left % 2 == 1 {
             count(file, p, false, free);
         }
-        left = left / 2;
-        p = p + 1;
+        left /= 2;
+        p += 1;
     }
 }
 
 // Places an operation, or says why not.
 pub fn place(
-    store: &[u8],
-    length_: usize,
+    file: &[u8],
     interval: usize,
     horizon: usize,
     op: usize,
@@ -65,43 +61,35 @@ pub fn place(
     starts: &mut [u16; 64],
     rows: &mut [u64],
     free: &mut [u16; 24],
-) -> Reply
-    requires { (length_ ≤ length store.now) × Board (take length_ store.now) interval horizon starts.old rows.old × (free.old ≡ free_rows interval rows.old) }
-    ensures { Did (model.place op start) (take length_ store.now) interval horizon starts.old rows.old starts.new rows.new result × (free.new ≡ free_rows interval rows.new) }
+) -> Result<Reply, Refusal>
+    requires { Board file.now interval horizon starts.old rows.old × (free.old ≡ free_rows interval rows.old) }
+    ensures { Did (model.place op start) file.now interval horizon starts.old rows.old starts.new rows.new result × (free.new ≡ free_rows interval rows.new) }
 {
-    let placed = moves::place(store, length_, interval, horizon, op, start, starts, rows);
-    let Reply::Done = placed else {
-        return placed;
-    };
-    count(&store[..length_], op, true, free);
-    placed
+    let placed = moves::place(file, interval, horizon, op, start, starts, rows)?;
+    count(file, op, true, free);
+    Ok(placed)
 }
 
 // Removes an operation, or says why not.
 pub fn remove(
-    store: &[u8],
-    length_: usize,
+    file: &[u8],
     interval: usize,
     op: usize,
     starts: &mut [u16; 64],
     rows: &mut [u64],
     free: &mut [u16; 24],
-) -> Reply
-    requires { (length_ ≤ length store.now) × Board (take length_ store.now) interval 4096 starts.old rows.old × (free.old ≡ free_rows interval rows.old) }
-    ensures { Removed (take length_ store.now) interval op starts.old rows.old starts.new rows.new result × (free.new ≡ free_rows interval rows.new) }
+) -> Result<Reply, Refusal>
+    requires { Board file.now interval 4096 starts.old rows.old × (free.old ≡ free_rows interval rows.old) }
+    ensures { Removed file.now interval op starts.old rows.old starts.new rows.new result × (free.new ≡ free_rows interval rows.new) }
 {
-    let removed = moves::remove(store, length_, interval, op, starts, rows);
-    let Reply::Done = removed else {
-        return removed;
-    };
-    count(&store[..length_], op, false, free);
-    removed
+    let removed = moves::remove(file, interval, op, starts, rows)?;
+    count(file, op, false, free);
+    Ok(removed)
 }
 
 // Forces an operation, or says why not.
 pub fn force(
-    store: &[u8],
-    length_: usize,
+    file: &[u8],
     interval: usize,
     horizon: usize,
     op: usize,
@@ -109,16 +97,15 @@ pub fn force(
     starts: &mut [u16; 64],
     rows: &mut [u64],
     free: &mut [u16; 24],
-) -> Reply
-    requires { (length_ ≤ length store.now) × Board (take length_ store.now) interval horizon starts.old rows.old × (free.old ≡ free_rows interval rows.old) }
-    ensures { Did (model.force op start) (take length_ store.now) interval horizon starts.old rows.old starts.new rows.new result × (free.new ≡ free_rows interval rows.new) }
+) -> Result<Reply, Refusal>
+    requires { Board file.now interval horizon starts.old rows.old × (free.old ≡ free_rows interval rows.old) }
+    ensures { Did (model.force op start) file.now interval horizon starts.old rows.old starts.new rows.new result × (free.new ≡ free_rows interval rows.new) }
 {
-    let forced = moves::force(store, length_, interval, horizon, op, start, starts, rows);
+    let forced = moves::force(file, interval, horizon, op, start, starts, rows)?;
     let Reply::Displaced(mask) = forced else {
-        return forced;
+        unreachable!();
     };
-    let file = &store[..length_];
     count_gone(file, mask, free);
     count(file, op, true, free);
-    forced
+    Ok(forced)
 }

@@ -1,5 +1,5 @@
--- A board of which every operation is placed, as a schedule; and what attempts at one interval and at several leave. Assumes nothing.
-use mathlib.Core.Path.{◌≡◌, refl, sym, ap, ◌∙◌}
+-- A board of which every operation is placed, as a schedule; and what an attempt at an interval leaves. Assumes nothing.
+use mathlib.Core.Path.{◌≡◌, sym, ap, ◌∙◌}
 use mathlib.Core.Bool.{Bool}
 use mathlib.Core.List.{List, ◌++◌}
 use mathlib.Core.Option.{none, some}
@@ -22,17 +22,7 @@ use Rattle.reservation.proofs.Stores.{cleared_length}
 use Rattle.board.specs.Board.{Board}
 use Rattle.board.proofs.Boards.{few_operations, sane_near, empty_board, rest_length}
 use Rattle.iterative.specs.Priority.{AllPlaced}
-use Rattle.iterative.specs.Placed.{Kept, PutAll, IntervalReady, LegalStarts, Untouched, AttemptLeaves, IntervalsAsked}
-
--- ---- steps
-
--- one after the other
-pub kept_again : {f rows₀ xs rows xs' rows' : List ℕ} {ii h : ℕ} → Kept f ii h rows₀ xs rows → Kept f ii h rows xs' rows' → Kept f ii h rows₀ xs' rows'
-kept_again a b = record { board = b.board; rest = b.rest ∙ a.rest }
-
--- the rows are as many as before
-pub kept_length : {f xs₀ rows₀ xs rows : List ℕ} {ii h : ℕ} → Board f ii h xs₀ rows₀ → Kept f ii h rows₀ xs rows → length rows ≡ length rows₀
-kept_length b k = rest_length b k.board k.rest
+use Rattle.iterative.specs.Placed.{PutAll, IntervalReady, LegalStarts, AttemptLeaves}
 
 -- ---- every operation is placed
 
@@ -58,7 +48,7 @@ module _ {f xs rows : List ℕ} {n ii h : ℕ} (b : Board f ii h xs rows) (e : n
     near = λ o m. rw (get_or_within xs o 0 65535 (omega (arith, room))) (sane_near b.sane o (all o m));
   }
 
--- ---- attempts at one interval
+-- ---- an attempt at an interval
 
 -- where later rows than the interval's are as they were, so are those after 4,096
 far_rest : (ii : ℕ) (xs ys : List ℕ) → ii ≤ 4096 → drop ii xs ≡ drop ii ys → drop 4096 xs ≡ drop 4096 ys
@@ -83,30 +73,6 @@ module _ {f xs₀ rows₀ rows₁ : List ℕ} {n ii h : ℕ} (q : IntervalReady 
         untouched = record {
           rest = far_rest ii rows rows₀ q.numbers.short (k.rest ∙ ap (drop ii) clear ∙ drop_at (replicate ii 0) (drop ii rows₀) ii (length-replicate ii 0));
           starts_length = k.board.sane.whole ∙ sym q.whole;
-          rows_length = kept_length begins k ∙ ap length clear ∙ cleared_length ii rows₀ room₁;
+          rows_length = rest_length begins k.board k.rest ∙ ap length clear ∙ cleared_length ii rows₀ room₁;
         };
       }
-
--- ---- attempts in turn
-
--- none is made yet
-pub untouched : (xs rows : List ℕ) → Untouched xs rows xs rows
-untouched xs rows = record { rest = refl; starts_length = refl; rows_length = refl }
-
--- one after the other
-pub untouched_again : {xs₀ rows₀ xs rows xs' rows' : List ℕ} → Untouched xs₀ rows₀ xs rows → Untouched xs rows xs' rows' → Untouched xs₀ rows₀ xs' rows'
-untouched_again a b = record { rest = b.rest ∙ a.rest; starts_length = b.starts_length ∙ a.starts_length; rows_length = b.rows_length ∙ a.rows_length }
-
--- the next may begin
-pub ready_again : {f xs₀ rows₀ xs rows : List ℕ} {n ii h : ℕ} → IntervalReady f n ii h xs₀ rows₀ → Untouched xs₀ rows₀ xs rows → IntervalReady f n ii h xs rows
-ready_again q u = record { accepted = q.accepted; is_size = q.is_size; numbers = q.numbers; whole = u.starts_length ∙ q.whole; long = omega (arith, u.rows_length, q.long) }
-
--- and so may one at another interval
-pub ready_at : {f xs₀ rows₀ xs rows : List ℕ} {n least cap h : ℕ} (ii : ℕ) → IntervalsAsked f n least cap h xs₀ rows₀ → least ≤ ii → ii ≤ cap → Untouched xs₀ rows₀ xs rows → IntervalReady f n ii h xs rows
-ready_at ii a low high u = record {
-  accepted = a.accepted;
-  is_size = a.is_size;
-  numbers = record { some = omega (arith, a.some); short = omega (arith, a.capped); far = a.far };
-  whole = u.starts_length ∙ a.whole;
-  long = omega (arith, u.rows_length, a.long);
-}

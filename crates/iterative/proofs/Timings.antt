@@ -1,43 +1,31 @@
--- The starts that dependences on placed operations allow, dependence by dependence. Assumes nothing.
+-- The starts that dependences on placed operations allow, dependence by dependence; and that the start that is chosen is below the horizon. Assumes nothing.
 use mathlib.Core.Path.{◌≡◌, refl, sym, ap, ap₂, ◌∙◌}
-use mathlib.Core.Bool.{Bool, true, false, not, ◌&&◌, ◌||◌, and-false, not-not}
+use mathlib.Core.Bool.{Bool, true, false, not, ◌&&◌, ◌||◌, not-not}
 use mathlib.Core.List.{List}
-use Prim.Native.Nat.{ℕ, ◌+◌, max}
+use Prim.Native.Nat.{ℕ, ◌+◌, ◌<◌, max}
 use native.Mathlib.Omega.{arith}
 use borrow.Author.Tests.{le-leb, leb-true, eq-eqb, ne_eqb}
-use lib.Dec.{eqb, leb}
-use lib.ListN.{get_or}
+use lib.Dec.{leb}
+use lib.ListN.{length, get_or}
+use Rattle.std.proofs.Common.{Option, None, Some}
+use Rattle.std.proofs.lemmas.Option.{same_Some}
 use Rattle.model.specs.Lists.{up_from, any_of}
-use Rattle.model.specs.Loop.{Loop, dep_at}
+use Rattle.model.specs.Loop.{Loop, op_at, dep_at}
+use Rattle.model.specs.File.{loop_of, Accepted}
 use Rattle.model.specs.Legality.{holds}
+use Rattle.model.proofs.File.{accepted_ok}
 use Rattle.model.proofs.Lists.{and_left, and_right, and_both, same_true, any_next}
 use Rattle.reservation.specs.Seats.{seats}
-use Rattle.reservation.proofs.Seats.{seat_some, seat_none}
+use Rattle.reservation.proofs.Seats.{seat_some}
+use Rattle.board.proofs.Boards.{few_operations}
 use Rattle.descent.specs.Span.{EarliestIs}
-use Rattle.iterative.specs.Timing.{too_early, DueIs, EarliestStart}
+use Rattle.iterative.specs.Timing.{too_early, DueIs, EarliestStart, FirstFree, ToGrid, StartIs}
 
 -- ---- one dependence
 
-module _ {l : Loop} {ii o e : ℕ} {xs : List ℕ} where
-  -- no start is too early
-  any_start : ((t : ℕ) → too_early ii (seats xs) o t (dep_at l e) ≡ false) → DueIs l ii xs o e 0
-  any_start h = record { at = λ t. le-leb 0 t (omega arith) ∙ sym (ap not (h t)) }
-
-  -- it leads to another operation
-  pub due_elsewhere : ((dep_at l e).dst ≡ o → ⊥) → DueIs l ii xs o e 0
-  due_elsewhere d = any_start (λ t. rw (ne_eqb (dep_at l e).dst o d))
-
-  -- it comes from the operation itself
-  pub due_self : (dep_at l e).src ≡ o → DueIs l ii xs o e 0
-  due_self s = any_start (λ t. rw (eq-eqb (dep_at l e).src o s, and-false (eqb (dep_at l e).dst o)))
-
-  -- it comes from one that is not placed
-  pub due_blank : get_or xs (dep_at l e).src 65535 ≡ 65535 → DueIs l ii xs o e 0
-  due_blank b = any_start (λ t. rw (seat_none (get_or xs (dep_at l e).src 65535) b) (and-false (eqb (dep_at l e).dst o && not (eqb (dep_at l e).src o))))
-
-  -- it comes from another one that is placed
-  pub due_placed : {s r : ℕ} → (dep_at l e).dst ≡ o → ((dep_at l e).src ≡ o → ⊥) → get_or xs (dep_at l e).src 65535 ≡ s → (s ≡ 65535 → ⊥) → EarliestIs l ii e s r → DueIs l ii xs o e r
-  due_placed {s} {r} q d x n h = record { at = λ t. rw (eq-eqb (dep_at l e).dst o q, ne_eqb (dep_at l e).src o d, x, seat_some s n) (h t ∙ sym (not-not (holds ii (dep_at l e) s t))) }
+-- it leads to operation o from another one that is placed
+pub due_placed : {l : Loop} {ii o e s r : ℕ} {xs : List ℕ} → (dep_at l e).dst ≡ o → ((dep_at l e).src ≡ o → ⊥) → get_or xs (dep_at l e).src 65535 ≡ s → (s ≡ 65535 → ⊥) → EarliestIs l ii e s r → DueIs l ii xs o e r
+due_placed {l} {ii} {o} {e} {s} q d x n h = record { at = λ t. rw (eq-eqb (dep_at l e).dst o q, ne_eqb (dep_at l e).src o d, x, seat_some s n) (h t ∙ sym (not-not (holds ii (dep_at l e) s t))) }
 
 -- ---- the dependences in turn
 
@@ -67,3 +55,19 @@ module _ {l : Loop} {ii o : ℕ} {xs : List ℕ} where
       not_or : (p q : Bool) → (not p && not q) ≡ not (p || q)
       not_or true q = refl
       not_or false q = refl
+
+-- ---- the ends of a dependence
+
+-- each is an operation, of which there are at most 64
+pub ends_inside : (f : List ℕ) (e : ℕ) → Accepted f → e < length (loop_of f).deps → ((dep_at (loop_of f) e).src < 64) × ((dep_at (loop_of f) e).dst < 64)
+ends_inside f e a l = let d = (accepted_ok f a).dep_ok e l in (omega (arith, d.source, few_operations f a), omega (arith, d.target, few_operations f a))
+
+-- ---- the start that is chosen
+
+-- it is below the horizon
+pub start_near : {l : Loop} {ii h o again s : ℕ} {gridded : Bool} {xs rows : List ℕ} → StartIs l ii h gridded xs rows o again (Some s) → s < h
+start_near {l} {ii} {h} {o} {again} {s} {gridded} {xs} {rows} c = go c.free c.free_is c.found c.forced
+  where
+    go : (free : Option ℕ) → FirstFree (op_at l o) ii h c.width c.from rows free → ((t : ℕ) → free ≡ Some t → Some s ≡ Some t) → (free ≡ None → ToGrid ii h c.width (max c.from again) (Some s)) → s < h
+    go None f q r = (r refl).1
+    go (Some t) f q r = let e = same_Some s t (q t refl) in omega (arith, f.1)

@@ -1,5 +1,5 @@
 -- What the attempts ask and leave. Nothing is said of the choices that they make, only that what they leave is legal. Assumes nothing.
-use Rattle.std.specs.Prelude.{◌≡◌, Bool, true, List, ℕ, ◌≤◌, ◌<◌, length, get_or, take, drop}
+use Rattle.std.specs.Prelude.{◌≡◌, Bool, true, List, ℕ, ◌≤◌, ◌<◌, length, get_or, take, drop, Option, Some}
 use Rattle.model.specs.Loop.{Loop, size}
 use Rattle.model.specs.File.{loop_of, Accepted}
 use Rattle.model.specs.Legality.{legal}
@@ -62,7 +62,7 @@ pub record FoundAt (l : Loop) (n least cap h : ℕ) (xs : List ℕ) (r : ℕ) : 
   pub high : r ≤ cap
   pub schedule : LegalStarts l n r h xs
 
--- what the intervals leave: a schedule at r, where r is not 0
-pub record Placed (f : List ℕ) (n least cap h : ℕ) (xs rows xs' rows' : List ℕ) (r : ℕ) : Type 0 where
-  pub found : (r ≡ 0 → ⊥) → FoundAt (loop_of f) n least cap h xs' r
+-- what the intervals leave: where the answer is an interval, a schedule at it
+pub record Placed (f : List ℕ) (n least cap h : ℕ) (xs rows xs' rows' : List ℕ) (r : Option ℕ) : Type 0 where
+  pub found : (ii : ℕ) → r ≡ Some ii → FoundAt (loop_of f) n least cap h xs' ii
   pub untouched : Untouched xs rows xs' rows'

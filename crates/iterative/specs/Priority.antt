@@ -1,5 +1,5 @@
 -- Which operation is put next. Assumes nothing.
-use Rattle.std.specs.Prelude.{◌≡◌, cond, List, ℕ, ◌≤◌, ◌<◌, eqb, ltb, get_or}
+use Rattle.std.specs.Prelude.{◌≡◌, cond, List, ℕ, ◌≤◌, ◌<◌, ltb, get_or, Option, None, Some}
 use Rattle.model.specs.Lists.{up_from, sum_of}
 use Rattle.model.specs.Loop.{Loop, op_at, use_at}
 
@@ -7,9 +7,10 @@ use Rattle.model.specs.Loop.{Loop, op_at, use_at}
 abbrev pub held_by : Loop → (o k : ℕ) → ℕ
 held_by l o k = sum_of (λ j. (use_at (op_at l o) j).duration) (up_from 0 k)
 
--- r is o where `best` is none, which n stands for, or has a lower rank; else it is `best`
-abbrev pub Higher : (n best o : ℕ) → List ℕ → ℕ → Type 0
-Higher n best o ranks r = r ≡ cond (eqb best n) o (cond (ltb (get_or ranks best 0) (get_or ranks o 0)) o best)
+-- r is o where `best` is none or has a lower rank; else it is `best`
+abbrev pub Higher : (best : Option ℕ) (o : ℕ) → List ℕ → ℕ → Type 0
+Higher None o ranks r = r ≡ o
+Higher (Some b) o ranks r = r ≡ cond (ltb (get_or ranks b 0) (get_or ranks o 0)) o b
 
 -- each of the first k operations has a start
 abbrev pub AllPlaced : ℕ → List ℕ → Type 0
@@ -22,7 +23,7 @@ pub record Highest (k : ℕ) (xs ranks : List ℕ) (r : ℕ) : Type 0 where
   pub none_higher : (o : ℕ) → o < k → get_or xs o 65535 ≡ 65535 → get_or ranks o 0 ≤ get_or ranks r 0
   pub none_before : (o : ℕ) → o < r → get_or xs o 65535 ≡ 65535 → get_or ranks o 0 < get_or ranks r 0
 
--- the same where there is one; n where all of the first k are placed
-pub record Picked (n k : ℕ) (xs ranks : List ℕ) (r : ℕ) : Type 0 where
-  pub none_left : r ≡ n → AllPlaced k xs
-  pub highest : (r ≡ n → ⊥) → Highest k xs ranks r
+-- the same where there is one; none where all of the first k are placed
+pub record Picked (k : ℕ) (xs ranks : List ℕ) (r : Option ℕ) : Type 0 where
+  pub none_left : r ≡ None → AllPlaced k xs
+  pub highest : (o : ℕ) → r ≡ Some o → Highest k xs ranks o

@@ -1,5 +1,5 @@
 -- Where an operation is put. Assumes nothing.
-use Rattle.std.specs.Prelude.{◌≡◌, Bool, true, false, not, cond, ◌&&◌, List, ℕ, ◌+◌, ◌%◌, ◌≤◌, ◌<◌, max, eqb, leb, length}
+use Rattle.std.specs.Prelude.{◌≡◌, Bool, true, false, not, cond, ◌&&◌, List, ℕ, ◌+◌, ◌%◌, ◌≤◌, ◌<◌, max, min, eqb, leb, length, Option, None, Some, MatchOption}
 use Rattle.std.proofs.Math.Option.{some}
 use Rattle.model.specs.Lists.{up_from, any_of, max_of}
 use Rattle.model.specs.Loop.{Op, Dep, Loop, size, op_at, use_at, dep_at}
@@ -56,27 +56,27 @@ pub record SuitsIs (p : Op) (ii width : ℕ) (rows : List ℕ) (t : ℕ) (r : Bo
   pub yes : r ≡ true → Suits p ii width rows t
   pub no : r ≡ false → Suits p ii width rows t → ⊥
 
--- r is the first start of from, .., from + ii - 1, below h, at which p may be put, or h where there is none
-pub record FirstFree (p : Op) (ii h width from : ℕ) (rows : List ℕ) (r : ℕ) : Type 0 where
-  pub within : r ≤ h
-  pub none_before : (t : ℕ) → t < r → from ≤ t → t < from + ii → Suits p ii width rows t → ⊥
-  pub found : r < h → (from ≤ r) × (r < from + ii) × Suits p ii width rows r
+-- r is the first of a, .., b - 1 of which P holds, or none where there is none
+abbrev pub FirstOf : (a b : ℕ) → (ℕ → Type 0) → Option ℕ → Type 0
+FirstOf a b P r = MatchOption r ((t : ℕ) → a ≤ t → t < b → P t → ⊥) (λ s. (a ≤ s) × (s < b) × P s × ((t : ℕ) → a ≤ t → t < s → P t → ⊥))
 
--- r is the first start from `from` on that is on the grid or not below h
-pub record ToGrid (ii h width from r : ℕ) : Type 0 where
-  pub late : from ≤ r
-  pub none_before : (t : ℕ) → t < r → from ≤ t → (t < h) × (on_grid ii width t ≡ false)
-  pub on : r < h → on_grid ii width r ≡ true
+-- r is the first start of from, .., from + ii - 1, below h, at which p may be put, or none where there is none
+abbrev pub FirstFree : (p : Op) (ii h width from : ℕ) → List ℕ → Option ℕ → Type 0
+FirstFree p ii h width from rows r = FirstOf from (min h (from + ii)) (Suits p ii width rows) r
+
+-- r is the first start from `from` on, below h, that is on the grid, or none where there is none
+abbrev pub ToGrid : (ii h width from : ℕ) → Option ℕ → Type 0
+ToGrid ii h width from r = FirstOf from h (λ t. on_grid ii width t ≡ true) r
 
 -- ---- the start that is chosen
 
--- operation o is put at r: where it may be, or else as early as its placed predecessors allow, but not before `again`; on the grid of its longest use, or on any start
-pub record StartIs (l : Loop) (ii h : ℕ) (gridded : Bool) (xs rows : List ℕ) (o again r : ℕ) : Type 0 where
+-- operation o is put at r: where it may be, or else as early as its placed predecessors allow, but not before `again`; on the grid of its longest use, or on any start; at none where there is no such start below h
+pub record StartIs (l : Loop) (ii h : ℕ) (gridded : Bool) (xs rows : List ℕ) (o again : ℕ) (r : Option ℕ) : Type 0 where
   pub width : ℕ
   pub width_is : width ≡ width_of gridded l o
   pub from : ℕ
   pub from_is : EarliestStart l ii xs o (length l.deps) from
-  pub free : ℕ
+  pub free : Option ℕ
   pub free_is : FirstFree (op_at l o) ii h width from rows free
-  pub found : free < h → r ≡ free
-  pub forced : h ≤ free → ToGrid ii h width (max from again) r
+  pub found : (s : ℕ) → free ≡ Some s → r ≡ Some s
+  pub forced : free ≡ None → ToGrid ii h width (max from again) r

@@ -6,13 +6,14 @@ ghost use Rattle.model.specs.File.{loop_of};
 ghost use Rattle.board.specs.Board.{Board};
 ghost use Rattle.iterative.specs.Placed.{IntervalReady, Kept, PutAll, AttemptLeaves};
 
-use crate::priority::{paths, pick, rank_all};
+use crate::NOT_PLACED;
+use crate::priority::{Direction, paths, pick, rank_all};
 use crate::timing::choose_start;
-use crate::wide;
 use board::moves::force;
 use reservation::clear::clear_rows;
 
 // One step: puts `op`, on the grid or at any start, and takes out what is in its way; whether there is a start for it below the horizon. again[i] is the first start after the last one that operation i had, 0 at first.
+#[tactic(auto, using(board::proofs::Boards::few_operations))]
 fn step(
     file: &[u8],
     op: usize,
@@ -26,25 +27,26 @@ fn step(
     requires { Board file.now interval horizon starts.old rows.old × (op < size (loop_of file.now)) }
     ensures { Kept file.now interval horizon rows.old starts.new rows.new }
 {
-    let start = choose_start(
+    let Some(start) = choose_start(
         file,
         op,
-        wide(again[op]),
+        usize::from(again[op]),
         gridded,
         interval,
         horizon,
         starts,
         rows,
-    );
-    if horizon <= start {
+    ) else {
         return false;
-    }
-    force(file, file.len(), interval, horizon, op, start, starts, rows);
+    };
+    // The answer is not read: where it is a refusal, `op` stays without a start, as `pick` sees.
+    let _ = force(file, interval, horizon, op, start, starts, rows);
     again[op] = (start + 1) as u16;
     true
 }
 
 // Steps in the order of an attempt, 10 an operation at most; whether all operations are placed. The order also says whether they are put on the grid: four orders are not, the next four are, and so on.
+#[tactic(auto, using(board::proofs::Boards::few_operations))]
 fn put_all(
     file: &[u8],
     n: usize,
@@ -63,22 +65,17 @@ fn put_all(
     rank_all(file, n, order, high, early, &mut ranks);
     let gridded = order / 4 % 2 == 1;
     let mut again = [0u16; 64];
-    let mut left = 10 * n;
-    loop {
-        let op = pick(n, starts, &ranks);
-        if op == n {
+    for _ in 0..10 * n {
+        let Some(op) = pick(n, starts, &ranks) else {
             return true;
-        }
-        if left == 0 {
-            return false;
-        }
-        left = left - 1;
+        };
         if !step(
             file, op, gridded, interval, horizon, &mut again, starts, rows,
         ) {
             return false;
         }
     }
+    pick(n, starts, &ranks).is_none()
 }
 
 // An attempt in one order, from no operation placed on; whether all are placed in the end.
@@ -97,7 +94,7 @@ fn attempt(
     ensures { AttemptLeaves file.now n interval horizon starts.old rows.old starts.new rows.new result }
 {
     clear_rows(rows, interval);
-    *starts = [65535u16; 64];
+    *starts = [NOT_PLACED; 64];
     put_all(file, n, interval, horizon, order, high, early, starts, rows)
 }
 
@@ -115,17 +112,15 @@ pub fn attempt_all(
     ensures { AttemptLeaves file.now n interval horizon starts.old rows.old starts.new rows.new result }
 {
     let mut high = [0u16; 64];
-    paths(file, n, interval, false, &mut high);
+    paths(file, n, interval, Direction::Backward, &mut high);
     let mut early = [0u16; 64];
-    paths(file, n, interval, true, &mut early);
-    let mut order = 0;
-    while order < tries {
+    paths(file, n, interval, Direction::Forward, &mut early);
+    for order in 0..tries {
         if attempt(
             file, n, interval, horizon, order, &high, &early, starts, rows,
         ) {
             return true;
         }
-        order = order + 1;
     }
     false
 }

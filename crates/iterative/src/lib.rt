@@ -11,25 +11,16 @@ ghost use Rattle.std.specs.Prelude.{◌≡◌, ◌+◌, ◌≤◌, max, min};
 ghost use Rattle.iterative.specs.Placed.{IntervalsAsked, Placed};
 
 use crate::attempt::attempt_all;
-use lower_bounds::larger;
 
-// A number of 16 bits as a larger one.
-fn wide(x: u16) -> usize
-    ensures { result ≡ x }
-{
-    x as usize
-}
+// What stands in a list of starts for an operation that is not placed: the board's starts are 16 bits each and have a number for it, as the C interface has.
+const NOT_PLACED: u16 = 65535;
 
 // The last interval that is tried. From horizon + 63 on no row wraps and every dependence on an earlier iteration is met, so the same starts below the horizon are legal at every interval from there on.
 fn last_of(least: usize, cap: usize, horizon: usize) -> usize
     requires { horizon ≤ 4096 }
     ensures { result ≡ min (max least (horizon + 63)) cap }
 {
-    let last = larger(least, horizon + 63);
-    if last < cap {
-        return last;
-    }
-    cap
+    least.max(horizon + 63).min(cap)
 }
 
 // How many attempts are made at the first interval, and how many at each later one. At the first it pays to try harder: where that is the larger of the two bounds, a schedule is the smallest there is.
@@ -37,7 +28,7 @@ const FIRST_TRIES: usize = 256;
 
 const LATER_TRIES: usize = 8;
 
-// The interval at which every operation got a start, or 0 where none of those tried had one. Tried are the intervals from `least` to the cap or, if that is less, to the larger of `least` and horizon + 63; the first in 256
+// The interval at which every operation got a start, or none where none of those tried had one. Tried are the intervals from `least` to the cap or, if that is less, to the larger of `least` and horizon + 63; the first in 256
 // orders and the others in 8, and in each with 10 steps an operation, a step for each time that an operation is put. What the starts are where none is found, and what the first 4,096 rows are, is left free: the caller clears
 // the rows.
 pub fn place_all(
@@ -48,19 +39,17 @@ pub fn place_all(
     horizon: usize,
     starts: &mut [u16; 64],
     rows: &mut [u64],
-) -> usize
+) -> Option<usize>
     requires { IntervalsAsked file.now n least cap horizon starts.old rows.old }
     ensures { Placed file.now n least cap horizon starts.old rows.old starts.new rows.new result }
 {
     let last = last_of(least, cap, horizon);
     let mut tries = FIRST_TRIES;
-    let mut ii = least;
-    while ii <= last {
+    for ii in least..=last {
         if attempt_all(file, n, ii, horizon, tries, starts, rows) {
-            return ii;
+            return Some(ii);
         }
         tries = LATER_TRIES;
-        ii = ii + 1;
     }
-    0
+    None
 }

@@ -6,12 +6,13 @@ ghost use Rattle.model.specs.File.{loop_of, Accepted};
 ghost use Rattle.board.specs.Board.{Board, Sane};
 ghost use Rattle.iterative.specs.Timing.{DueIs, EarliestStart, longest_of, width_of, on_grid, GridRows, SuitsIs, FirstFree, ToGrid, StartIs};
 
-use crate::{larger, wide};
+use crate::NOT_PLACED;
 use descent::earliest;
 use loop_access::{dep_count, duration, first_use, source, target, use_count};
 use reservation::test::is_free;
 
 // How early dependence e lets `op` start: 0 where it does not lead to `op` from another operation that is placed.
+#[tactic(auto, using(crate::proofs::Timings::ends_inside))]
 fn due(file: &[u8], e: usize, op: usize, interval: usize, starts: &[u16; 64]) -> usize
     requires { Accepted file.now × (e < length (loop_of file.now).deps) × (interval ≤ 4096) × Sane (loop_of file.now) interval 4096 starts.now }
     ensures { DueIs (loop_of file.now) interval starts.now op e result }
@@ -23,11 +24,11 @@ fn due(file: &[u8], e: usize, op: usize, interval: usize, starts: &[u16; 64]) ->
     if from == op {
         return 0;
     }
-    let start = wide(starts[from]);
-    if start == 65535 {
+    let start = starts[from];
+    if start == NOT_PLACED {
         return 0;
     }
-    earliest(file, e, start, interval)
+    earliest(file, e, usize::from(start), interval)
 }
 
 // The earliest start of `op` that its placed predecessors allow.
@@ -35,12 +36,9 @@ fn earliest_start(file: &[u8], op: usize, interval: usize, starts: &[u16; 64]) -
     requires { Accepted file.now × (interval ≤ 4096) × Sane (loop_of file.now) interval 4096 starts.now }
     ensures { EarliestStart (loop_of file.now) interval starts.now op (length (loop_of file.now).deps) result }
 {
-    let m = dep_count(file);
     let mut from = 0;
-    let mut e = 0;
-    while e < m {
-        from = larger(from, due(file, e, op, interval, starts));
-        e = e + 1;
+    for e in 0..dep_count(file) {
+        from = from.max(due(file, e, op, interval, starts));
     }
     from
 }
@@ -51,12 +49,9 @@ fn longest(file: &[u8], op: usize) -> usize
     ensures { (result ≡ longest_of (loop_of file.now) op (length (op_at (loop_of file.now) op).uses)) × (result ≤ 16) }
 {
     let first = first_use(file, op);
-    let n = use_count(file, op);
     let mut most = 1;
-    let mut j = 0;
-    while j < n {
-        most = larger(most, duration(file, first + j));
-        j = j + 1;
+    for j in 0..use_count(file, op) {
+        most = most.max(duration(file, first + j));
     }
     most
 }
@@ -66,10 +61,7 @@ fn width_of(file: &[u8], op: usize, gridded: bool) -> usize
     requires { Accepted file.now × (op < size (loop_of file.now)) }
     ensures { (result ≡ width_of gridded (loop_of file.now) op) × (1 ≤ result) × (result ≤ 16) }
 {
-    if gridded {
-        return longest(file, op);
-    }
-    1
+    if gridded { longest(file, op) } else { 1 }
 }
 
 // Whether a start is on the grid of a width: its row is a multiple of the width, and so many rows are left. Operations of one width that are put on its grid leave no gap between them that is too narrow for another.
@@ -78,7 +70,7 @@ fn on_grid(start: usize, interval: usize, width: usize) -> bool
     ensures { result ≡ on_grid interval width start }
 {
     let row = start % interval;
-    (row % width == 0) & (row + width <= interval)
+    row % width == 0 && row + width <= interval
 }
 
 // Whether `op` may be put at `start`: that is on the grid, and the rows are free for it.
@@ -94,13 +86,10 @@ fn suits(
     requires { GridRows file.now rows.now op interval width × (start ≤ 4096) × (first ≡ first_use_of (loop_of file.now) op) }
     ensures { SuitsIs (op_at (loop_of file.now) op) interval width rows.now start result }
 {
-    if !on_grid(start, interval, width) {
-        return false;
-    }
-    is_free(file, op, first, start, interval, rows)
+    on_grid(start, interval, width) && is_free(file, op, first, start, interval, rows)
 }
 
-// The first start of `from`, .., `from` + interval - 1, below the horizon, that is on the grid and at which the rows are free for `op`, or the horizon.
+// The first start of `from`, .., `from` + interval - 1, below the horizon, that is on the grid and at which the rows are free for `op`, or none.
 fn first_free(
     file: &[u8],
     op: usize,
@@ -109,42 +98,24 @@ fn first_free(
     horizon: usize,
     width: usize,
     rows: &[u64],
-) -> usize
+) -> Option<usize>
     requires { GridRows file.now rows.now op interval width × (horizon ≤ 4096) }
     ensures { FirstFree (op_at (loop_of file.now) op) interval horizon width from rows.now result }
 {
     let first = first_use(file, op);
-    let mut k = 0;
-    let mut s = from;
-    while s < horizon {
-        if k == interval {
-            return horizon;
-        }
-        if suits(file, op, first, s, interval, width, rows) {
-            return s;
-        }
-        k = k + 1;
-        s = s + 1;
-    }
-    horizon
+    let end = horizon.min(from.saturating_add(interval));
+    (from..end).find(|s| suits(file, op, first, *s, interval, width, rows))
 }
 
-// The first start from `from` on that is on the grid or not below the horizon.
-fn to_grid(from: usize, interval: usize, horizon: usize, width: usize) -> usize
+// The first start from `from` on, below the horizon, that is on the grid, or none.
+fn to_grid(from: usize, interval: usize, horizon: usize, width: usize) -> Option<usize>
     requires { (1 ≤ interval) × (interval ≤ 4096) × (1 ≤ width) × (width ≤ 16) × (horizon ≤ 4096) }
     ensures { ToGrid interval horizon width from result }
 {
-    let mut s = from;
-    while s < horizon {
-        if on_grid(s, interval, width) {
-            return s;
-        }
-        s = s + 1;
-    }
-    s
+    (from..horizon).find(|s| on_grid(*s, interval, width))
 }
 
-// Where `op` is put; `again` is the first start after the last one that it had, and `gridded` says whether only starts on the grid of its longest use count. At the horizon or beyond there is no place for it.
+// Where `op` is put, or none where there is no place for it below the horizon; `again` is the first start after the last one that it had, and `gridded` says whether only starts on the grid of its longest use count.
 pub fn choose_start(
     file: &[u8],
     op: usize,
@@ -154,15 +125,13 @@ pub fn choose_start(
     horizon: usize,
     starts: &[u16; 64],
     rows: &[u64],
-) -> usize
+) -> Option<usize>
     requires { Board file.now interval horizon starts.now rows.now × (op < size (loop_of file.now)) }
     ensures { StartIs (loop_of file.now) interval horizon gridded starts.now rows.now op again result }
 {
     let width = width_of(file, op, gridded);
     let from = earliest_start(file, op, interval, starts);
-    let s = first_free(file, op, from, interval, horizon, width, rows);
-    if s < horizon {
-        return s;
-    }
-    to_grid(larger(from, again), interval, horizon, width)
+    let free = first_free(file, op, from, interval, horizon, width, rows);
+    let late = from.max(again);
+    free.or_else(|| to_grid(late, interval, horizon, width))
 }

@@ -6,7 +6,7 @@ ghost use Rattle.model.specs.File.{word_at, signed_byte};
 pub fn wide(b: u8) -> usize
     ensures { (result ≡ b) × (result < 256) }
 {
-    b as usize
+    usize::from(b)
 }
 
 // The number of two bytes at `at`, little-endian.
@@ -14,12 +14,12 @@ pub fn word(file: &[u8], at: usize) -> usize
     requires { at + 1 < length file.now }
     ensures { (result ≡ word_at file.now at) × (result < 65536) }
 {
-    wide(file[at]) + 256 * wide(file[at + 1])
+    usize::from(u16::from_le_bytes([file[at], file[at + 1]]))
 }
 
 // A byte as a signed number, by two's complement.
 pub fn signed(b: u8) -> i32
     ensures { result ≡ signed_byte b }
 {
-    if b < 128 { b as i32 } else { b as i32 - 256 }
+    i32::from(b.cast_signed())
 }

@@ -1,6 +1,6 @@
 // What the layers above read of an accepted file, in place of raw offsets. Internal: each asks for an accepted file and a number
-// that is there, and answers what the model's loop has.
-#![tactic(auto)]
+// that is there, and answers what the model's loop has. What the bytes say of the loop is in `reads`, with which the proofs are found.
+#![tactic(auto, using(crate::proofs::Records::reads))]
 
 pub mod bytes;
 
@@ -49,15 +49,14 @@ pub fn use_count(file: &[u8], op: usize) -> usize
 }
 
 // The number of an operation's first use among all uses.
+#[tactic(auto, using(crate::proofs::Records::counts), unfolding(model::specs::File::first_use))]
 pub fn first_use(file: &[u8], op: usize) -> usize
     requires { Accepted file.now × (op < size (loop_of file.now)) }
     ensures { result ≡ first_use_of (loop_of file.now) op }
 {
     let mut sum = 0;
-    let mut o = 0;
-    while o < op {
-        sum = sum + use_count(file, o);
-        o = o + 1;
+    for o in 0..op {
+        sum += use_count(file, o);
     }
     sum
 }

@@ -1,13 +1,17 @@
 -- How the tables of the file's parts join to the table of the whole file. Assumes nothing.
-use mathlib.Core.Path.{◌≡◌, ap, ◌∙◌}
+use mathlib.Core.Path.{◌≡◌, ap}
 use mathlib.Core.List.{List, ◌++◌, append_assoc}
 use mathlib.Core.Option.{none, some}
-use Prim.Native.Nat.{ℕ, ◌*◌}
-use borrow.Author.Tests.{eq-eqb, ne_eqb}
-use Rattle.model.specs.Refusals.{Refusal, Check, first_refusal}
+use Prim.Native.Nat.{ℕ, ◌*◌, ◌≤◌}
+use borrow.Author.Tests.{eq-eqb, ne_eqb, ltb-false}
+use lib.ListN.{length}
+use Rattle.model.proofs.Lists.{or_false_left}
+use Rattle.model.proofs.Checks.{passes_left, passes_head}
+use Rattle.refusals.proofs.Tables.{fine_passes}
+use Rattle.model.specs.Refusals.{Check, first_refusal}
 use Rattle.model.specs.File.{uses, length_of, uses_at, deps_at, op_count, dep_count, first_use, length_checks, head_checks, contents_checks, uses_checks, file_checks}
-use Rattle.model.proofs.Checks.{refusal_append, refusal_early}
-use Rattle.loop_file.specs.Read.{refusal, ops_table, uses_table, deps_table, body_checks}
+use Rattle.refusals.specs.Told.{refusal}
+use Rattle.loop_file.specs.Read.{ops_table, uses_table, deps_table, body_checks}
 
 -- ---- the uses: their number, then each
 
@@ -21,43 +25,28 @@ pub sum_right : (f : List ℕ) → length_of f uses ≡ 2 * first_use f (op_coun
 unfolding uses_checks first_refusal
 sum_right f e = rw (eq-eqb (length_of f uses) (2 * first_use f (op_count f)) e)
 
--- ---- the three bodies
+-- ---- the tables, each with what comes after it
 
 module _ (f : List ℕ) where
-  abbrev ops_part : List Check
+  abbrev pub ops_part : List Check
   ops_part = ops_table f (op_count f)
 
-  abbrev deps_part : List Check
+  abbrev pub deps_part : List Check
   deps_part = deps_table f (op_count f) (deps_at f) (dep_count f)
 
-  pub ops_refused : (r : Refusal) → first_refusal ops_part ≡ some r → first_refusal (body_checks f) ≡ some r
-  ops_refused r e = refusal_early (ops_part ++ uses_checks f) deps_part r (refusal_early ops_part (uses_checks f) r e)
+  -- the bodies: operations, uses, dependences
+  pub bodies_whole : first_refusal (ops_part ++ (uses_checks f ++ deps_part)) ≡ first_refusal (body_checks f)
+  bodies_whole = ap first_refusal (rw append_assoc)
 
-  pub uses_refused : (r : Refusal) → first_refusal ops_part ≡ none → first_refusal (uses_checks f) ≡ some r → first_refusal (body_checks f) ≡ some r
-  uses_refused r p e = refusal_early (ops_part ++ uses_checks f) deps_part r (refusal_append ops_part (uses_checks f) p ∙ e)
-
-  pub deps_come : first_refusal ops_part ≡ none → first_refusal (uses_checks f) ≡ none → first_refusal (body_checks f) ≡ first_refusal deps_part
-  deps_come p q = refusal_append (ops_part ++ uses_checks f) deps_part (refusal_append ops_part (uses_checks f) p ∙ q)
-
-  -- ---- the whole file: its head, its contents, its bodies
-
-  whole : file_checks f ≡ length_checks f ++ head_checks f ++ contents_checks f ++ body_checks f
+  -- the file: head, contents, bodies
+  pub file_whole : first_refusal ((length_checks f ++ head_checks f) ++ (contents_checks f ++ body_checks f)) ≡ first_refusal (file_checks f)
   unfolding file_checks
-  whole =
-      ap (λ (cs : List Check). cs ++ deps_part) (append_assoc (length_checks f ++ head_checks f ++ contents_checks f) ops_part (uses_checks f))
-      ∙ append_assoc (length_checks f ++ head_checks f ++ contents_checks f) (ops_part ++ uses_checks f) deps_part
+  file_whole = ap first_refusal (simp append_assoc)
 
-  pub head_refused : (r : Refusal) → first_refusal (length_checks f ++ head_checks f) ≡ some r → first_refusal (file_checks f) ≡ some r
-  head_refused r e =
-      ap first_refusal whole
-      ∙ refusal_early (length_checks f ++ head_checks f ++ contents_checks f) (body_checks f) r (refusal_early (length_checks f ++ head_checks f) (contents_checks f) r e)
+-- a file whose head is right has 26 bytes
+pub long : (f : List ℕ) → first_refusal (length_checks f ++ head_checks f) ≡ none → 26 ≤ length f
+unfolding length_checks
+long f e = ltb-false (length f) 26 (or_false_left _ _ (passes_head _ _ (passes_left (length_checks f) (head_checks f) e)))
 
-  pub contents_refused : (r : Refusal) → first_refusal (length_checks f ++ head_checks f) ≡ none → first_refusal (contents_checks f) ≡ some r → first_refusal (file_checks f) ≡ some r
-  contents_refused r p e =
-      ap first_refusal whole
-      ∙ refusal_early (length_checks f ++ head_checks f ++ contents_checks f) (body_checks f) r (refusal_append (length_checks f ++ head_checks f) (contents_checks f) p ∙ e)
-
-  pub bodies_come : first_refusal (length_checks f ++ head_checks f) ≡ none → first_refusal (contents_checks f) ≡ none → first_refusal (file_checks f) ≡ first_refusal (body_checks f)
-  bodies_come p q =
-      ap first_refusal whole
-      ∙ refusal_append (length_checks f ++ head_checks f ++ contents_checks f) (body_checks f) (refusal_append (length_checks f ++ head_checks f) (contents_checks f) p ∙ q)
+-- what the parts after the head need
+pub ruleset from_head = (long, fine_passes)

@@ -1,20 +1,13 @@
 -- What the reader's answers say, in document 01's numbers. Assumes nothing.
 use mathlib.Core.List.{List, [], ◌∷◌, ◌++◌, flat_map}
-use Rattle.std.specs.Prelude.{ℕ, ◌+◌, ◌*◌, length, get_or}
+use Rattle.std.specs.Prelude.{ℕ, ◌+◌, ◌*◌, length, get_or, Result}
 use Rattle.model.specs.Lists.{up_from}
-use Rattle.model.specs.Refusals.{Refusal, Check, Answer, answered, refused}
+use Rattle.model.specs.Refusals.{Check, Answer, answered, refused}
 use Rattle.model.specs.Loop.{Loop, size, all_uses}
 use Rattle.model.specs.File.{Section, op_count, dep_count, deps_at, use_width, op_record, uses_of, first_use, op_checks_at, op_use_checks, uses_checks, dep_checks_at}
-use Rattle.refusals.specs.declared.Checked.{Checked}
-use Rattle.refusals.specs.declared.Checked.TheVariants as checked
-use Rattle.loop_file.specs.declared.Reading as reading_type
-use Rattle.loop_file.specs.declared.Reading.TheVariants as reading
-use Rattle.loop_file.specs.declared.reader.Part as part_type
-use Rattle.loop_file.specs.declared.reader.Part.TheVariants as part
-
--- a refusal by its number and detail
-abbrev pub refusal : ℕ → ℕ → Refusal
-refusal number detail = record { number = number; detail = detail }
+use Rattle.refusals.specs.declared.Refusal.{Refusal}
+use Rattle.refusals.specs.Told.{answer_of}
+use Rattle.loop_file.specs.declared.Counts as code
 
 -- ---- the reader's answer
 
@@ -25,31 +18,19 @@ pub record Counts : Type 0 where
   pub deps : ℕ
 
 -- what `read` says
-abbrev pub reading_of : reading_type.Reading → Answer Counts
-reading_of (reading.Accepted a b c) = answered (record { ops = a; uses = b; deps = c })
-reading_of (reading.Refused n d) = refused (refusal n d)
+abbrev pub reading_of : Result code.Counts Refusal → Answer Counts
+reading_of = answer_of (λ c. record { ops = c.operations; uses = c.uses; deps = c.dependences })
 
 -- the numbers of a loop, or the refusal: what `read` says of the model's reading
 abbrev pub counted : Answer Loop → Answer Counts
 counted (answered l) = answered (record { ops = size l; uses = length (all_uses l); deps = length l.deps })
 counted (refused r) = refused r
 
--- its refusal as that of a check
-abbrev pub as_unread : reading_type.Reading → Checked
-as_unread (reading.Accepted a b c) = checked.Refused 0 0
-as_unread (reading.Refused n d) = checked.Refused n d
-
 -- ---- its parts
 
 -- what a part of the reader says: a number for the next part, or the refusal
-abbrev pub part_of : part_type.Part → Answer ℕ
-part_of (part.Fine n) = answered n
-part_of (part.Refused n d) = refused (refusal n d)
-
--- a part's refusal as the reader's
-abbrev pub as_reading : part_type.Part → reading_type.Reading
-as_reading (part.Fine n) = reading.Refused 0 0
-as_reading (part.Refused n d) = reading.Refused n d
+abbrev pub part_of : Result ℕ Refusal → Answer ℕ
+part_of = answer_of (λ n. n)
 
 -- the four bytes of a tag
 abbrev pub four_of : List ℕ → List ℕ

@@ -2,7 +2,7 @@
 pub mod Ranges
 pub mod Tables
 pub mod Uses
-pub mod Bytes
+pub mod Rows
 pub mod Buffers
 pub mod Answers
 pub mod Promises

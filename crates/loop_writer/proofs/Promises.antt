@@ -2,23 +2,22 @@
 use mathlib.Core.Path.{◌≡◌, refl, ap, ap₂, ◌∙◌}
 use mathlib.Core.List.{List}
 use Prim.Native.Nat.{ℕ}
-use native.Mathlib.Omega.{arith}
 use lib.ListN.{length, take}
+use Rattle.std.specs.Prelude.{Result, Ok, Err}
 use Rattle.model.specs.Refusals.{Answer, answered, refused}
 use Rattle.model.specs.File.{read_file}
 use Rattle.model.specs.Writer.{write_file, buffer_after}
 use Rattle.model.proofs.Given.{given_counts}
 use Rattle.model.proofs.Writer.{written_passes, writes_read, gives_back, buffer_file}
+use Rattle.refusals.specs.declared.Refusal.{Refusal}
 use Rattle.loop_file.specs.Read.{counted}
 use Rattle.loop_writer.specs.Answer.{written_of, bytes_in}
 use Rattle.loop_writer.specs.Promises.{ReadBack, WrittenBack}
-use Rattle.loop_writer.specs.declared.Written.{Written}
-use Rattle.loop_writer.specs.declared.Written.TheVariants as written
 
 -- a number of bytes is said only of a file that has so many
 file_said : (a : Answer (List ℕ)) {n : ℕ} → answered n ≡ bytes_in a → (f : List ℕ) × (a ≡ answered f) × (n ≡ length f)
 file_said (answered f) e = (f, refl, cc)
-file_said (refused r) e = let z : ◌≡◌ {A = ℕ} 0 1 = cc in absurd (omega arith)
+file_said (refused r) e = cc
 
 pub read_back : ReadBack
 read_back d before after n r w e =
@@ -29,9 +28,9 @@ read_back d before after n r w e =
     e ∙ ap (λ (g : List ℕ). counted (read_file g)) left ∙ ap counted (writes_read d (length before) f s.1) ∙ rw (c.0, c.1, c.2)
 
 -- what says a number of bytes is that number
-number_said : (w : Written) (n : ℕ) → written_of w ≡ answered n → w ≡ written.Bytes n
-number_said (written.Bytes m) n e = let k : m ≡ n = cc in ap written.Bytes k
-number_said (written.Refused x y) n e = let z : ◌≡◌ {A = ℕ} 0 1 = cc in absurd (omega arith)
+number_said : (w : Result ℕ Refusal) (n : ℕ) → written_of w ≡ answered n → w ≡ Ok n
+number_said (Ok m) n e = cc
+number_said (Err r) n e = cc
 
 pub written_back : WrittenBack
 written_back f before after w bytes a room s =

@@ -7,15 +7,32 @@ use Prim.Native.Nat.{ℕ, ◌*◌, ◌/◌, ◌≤◌}
 use borrow.Author.Tests.{eq-eqb, ne_eqb, ltb-false}
 use lib.Dec.{ltb}
 use lib.ListN.{length}
+use Rattle.std.specs.Prelude.{Result, Ok}
 use Rattle.model.specs.Lists.{up_from}
 use Rattle.model.specs.Refusals.{Check, first_refusal}
 use Rattle.model.specs.File.{Section, use_width, oper, deps, size_checks}
 use Rattle.model.specs.Writer.{Fields, op_total, use_total, dep_total, uses_given, first_given, op_given_checks, op_uses_given_checks, uses_given_checks, dep_given_checks, given_checks}
 use Rattle.model.proofs.Lists.{or_false_left, or_false_right}
 use Rattle.model.proofs.Checks.{passes_head, passes_tail}
+use Rattle.refusals.specs.Told.{refusal, refusal_of}
+use Rattle.refusals.specs.declared.Refusal.{Refusal}
+use Rattle.refusals.proofs.Tables.{fine_passes, rest_decides}
+
+-- a list that passes the check of its length has as many records as its section may have
+size_range : (s : Section) (n : ℕ) → first_refusal (size_checks s n) ≡ none → (s.least ≤ n / s.width) × (n / s.width ≤ s.most)
+size_range s n e =
+    let k : ℕ = n / s.width in
+    let f : (ltb k s.least || ltb s.most k) ≡ false = passes_head _ _ (passes_tail _ _ e) in
+    (ltb-false k s.least (or_false_left (ltb k s.least) (ltb s.most k) f), ltb-false s.most k (or_false_right (ltb k s.least) (ltb s.most k) f))
 
 module _ (d : Fields) where
-  -- the tables of the operations, of the uses, and of the dependences
+  -- the tables of the two lengths, of the operations, of the uses, and of the dependences
+  abbrev pub op_size : List Check
+  op_size = size_checks oper (length d.ops)
+
+  abbrev pub dep_size : List Check
+  dep_size = size_checks deps (length d.deps)
+
   abbrev pub ops_table : List Check
   ops_table = flat_map (op_given_checks d.ops) (up_from 0 (op_total d))
 
@@ -33,18 +50,18 @@ module _ (d : Fields) where
   after_sizes = ops_table ++ after_ops
 
   abbrev pub after_op_size : List Check
-  after_op_size = size_checks deps (length d.deps) ++ after_sizes
+  after_op_size = dep_size ++ after_sizes
 
   -- the whole
-  pub whole : first_refusal (size_checks oper (length d.ops) ++ after_op_size) ≡ first_refusal (given_checks d)
+  pub whole : first_refusal (op_size ++ after_op_size) ≡ first_refusal (given_checks d)
   unfolding given_checks
   whole =
-      let a : List Check = size_checks oper (length d.ops) in
-      let b : List Check = size_checks deps (length d.deps) in
-      ap first_refusal (sym (append_assoc (a ++ b ++ ops_table) (uses_given_checks d) deps_table ∙ append_assoc (a ++ b) ops_table after_ops ∙ append_assoc a b after_sizes))
+      ap
+      first_refusal
+      (sym (append_assoc (op_size ++ dep_size ++ ops_table) (uses_given_checks d) deps_table ∙ append_assoc (op_size ++ dep_size) ops_table after_ops ∙ append_assoc op_size dep_size after_sizes))
 
   -- another number of uses than the operations say
-  pub number_refused : (length d.uses ≡ use_width * first_given d.ops (op_total d) → ⊥) → some (record { number = 5; detail = use_total d }) ≡ first_refusal after_ops
+  pub number_refused : (length d.uses ≡ use_width * first_given d.ops (op_total d) → ⊥) → some (refusal 5 (use_total d)) ≡ first_refusal after_ops
   unfolding uses_given_checks first_refusal
   number_refused n = rw (ne_eqb (length d.uses) (use_width * first_given d.ops (op_total d)) n)
 
@@ -53,9 +70,19 @@ module _ (d : Fields) where
   unfolding uses_given_checks first_refusal
   number_right e = rw (eq-eqb (length d.uses) (use_width * first_given d.ops (op_total d)) e)
 
--- a list that passes the check of its length has as many records as its section may have
-pub size_range : (s : Section) (n : ℕ) → first_refusal (size_checks s n) ≡ none → (s.least ≤ n / s.width) × (n / s.width ≤ s.most)
-size_range s n e =
-    let k : ℕ = n / s.width in
-    let f : (ltb k s.least || ltb s.most k) ≡ false = passes_head _ _ (passes_tail _ _ e) in
-    (ltb-false k s.least (or_false_left (ltb k s.least) (ltb s.most k) f), ltb-false s.most k (or_false_right (ltb k s.least) (ltb s.most k) f))
+  -- where the number of operations is right, there are 1 to 64, and the rest of the table decides
+  module _ {A : Type 0} {c : Result A Refusal} {a : A} (sized : refusal_of c ≡ first_refusal op_size) (fine : c ≡ Ok a) where
+    pub few : (1 ≤ op_total d) × (op_total d ≤ 64)
+    few = size_range oper (length d.ops) (fine_passes op_size fine sized)
+
+    pub from_op_size : first_refusal after_op_size ≡ first_refusal (given_checks d)
+    from_op_size = sym (rest_decides op_size after_op_size sized fine) ∙ whole
+
+    -- where that of the dependences is
+    module _ {e : Result A Refusal} (paired : refusal_of e ≡ first_refusal dep_size) (even : e ≡ Ok a) where
+      pub from_sizes : first_refusal after_sizes ≡ first_refusal (given_checks d)
+      from_sizes = sym (rest_decides dep_size after_sizes paired even) ∙ from_op_size
+
+      -- and the operations are
+      pub from_ops : {o : Result A Refusal} → refusal_of o ≡ first_refusal ops_table → o ≡ Ok a → first_refusal after_ops ≡ first_refusal (given_checks d)
+      from_ops listed right = sym (rest_decides ops_table after_ops listed right) ∙ from_sizes

@@ -9,7 +9,7 @@ fn byte_of(z: i32) -> u8
     requires { model.HasByte z }
     ensures { result ≡ model.byte_of z }
 {
-    if z < 0 { (z + 256) as u8 } else { z as u8 }
+    z.rem_euclid(256) as u8
 }
 
 // A body: each number of the list as a byte, from `at` on.
@@ -17,11 +17,17 @@ pub fn body(buffer: &mut [u8], at: usize, fields: &[i32])
     requires { (at + length fields.now ≤ length buffer.old) × model.HaveBytes fields.now }
     ensures { buffer.new ≡ stored buffer.old at (map model.byte_of fields.now) }
 {
-    let mut i = 0;
-    while i < fields.len() {
-        buffer[at + i] = byte_of(fields[i]);
-        i = i + 1;
+    for (i, z) in fields.iter().enumerate() {
+        buffer[at + i] = byte_of(*z);
     }
+}
+
+// These bytes, from `at` on.
+fn store(buffer: &mut [u8], at: usize, bytes: &[u8])
+    requires { at + length bytes.now ≤ length buffer.old }
+    ensures { buffer.new ≡ stored buffer.old at bytes.now }
+{
+    buffer[at..at + bytes.len()].copy_from_slice(bytes);
 }
 
 // A number in two bytes, little-endian.
@@ -29,8 +35,7 @@ fn word(buffer: &mut [u8], at: usize, n: usize)
     requires { (at + 2 ≤ length buffer.old) × (n < 65536) }
     ensures { buffer.new ≡ stored buffer.old at (model.word n) }
 {
-    buffer[at] = (n % 256) as u8;
-    buffer[at + 1] = (n / 256) as u8;
+    store(buffer, at, &(n as u16).to_le_bytes());
 }
 
 // A section's entry in the contents: tag, offset, length.
@@ -38,10 +43,7 @@ fn entry(buffer: &mut [u8], at: usize, tag: &[u8; 4], start: usize, long: usize)
     requires { (at + 8 ≤ length buffer.old) × (start < 65536) × (long < 65536) }
     ensures { buffer.new ≡ stored buffer.old at (model.entry_bytes (four_of tag.now) start long) }
 {
-    buffer[at] = tag[0];
-    buffer[at + 1] = tag[1];
-    buffer[at + 2] = tag[2];
-    buffer[at + 3] = tag[3];
+    store(buffer, at, tag);
     word(buffer, at + 4, start);
     word(buffer, at + 6, long);
 }
@@ -51,8 +53,7 @@ pub fn head(buffer: &mut [u8], oper: usize, uses: usize, deps: usize)
     requires { (26 ≤ length buffer.old) × (26 + oper + uses + deps < 65536) }
     ensures { buffer.new ≡ stored buffer.old 0 (model.head_bytes oper uses deps) }
 {
-    buffer[0] = 1;
-    buffer[1] = 3;
+    store(buffer, 0, &[1, 3]);
     entry(buffer, 2, b"OPER", 26, oper);
     entry(buffer, 10, b"USES", 26 + oper, uses);
     entry(buffer, 18, b"DEPS", 26 + oper + uses, deps);

@@ -41,3 +41,6 @@ total_most l ok s n h = sum_most (λ u. use_on s (get_or (all_uses l) u no_use))
 
     pick : (u : Use) → UseOk u → use_on s u ≤ 16
     pick u k = part (eqb u.slot s) u.duration (omega (arith, k.ends))
+
+-- a turn of a loop over the uses
+pub ruleset turns = (total_on_lem, total_off)

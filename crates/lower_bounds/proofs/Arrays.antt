@@ -17,6 +17,7 @@ use Rattle.model.specs.Loop.{Dep, Loop, size, dep_at, DepOk, LoopOk}
 use Rattle.model.proofs.Lists.{and_left, and_right}
 use Rattle.model.proofs.Signed.{by_test, is_pos, is_add, is_subtract, lt_as, parts}
 use Rattle.model.proofs.Bounds.{Met}
+use Rattle.model.proofs.File.{accepted_ok}
 use Rattle.lower_bounds.specs.Rounds.{needed, relax, relax_to, metb, met_to, Holds, nats, neededℤ, Relaxed, SmallIn}
 use Rattle.lower_bounds.proofs.Rounds.{relax_int, relax_to_met, relax_to_next}
 use Rattle.lower_bounds.proofs.Values.{to_below}
@@ -112,3 +113,6 @@ module _ (L : Loop) (ok : LoopOk L) (ii : ℕ) (e : ℕ) (known : e < length L.d
         rw (relax_to_next L ii e xs, r.raised.after) (holds_relax h ii (dep_at L e) (ok.dep_ok e known)),
         changed_next L ii e xs changed rose p (r.raised.test ∙ holds_test h ii (dep_at L e) (ok.dep_ok e known)),
       )
+
+-- what a turn needs
+pub ruleset turns = (accepted_ok, turn_small)

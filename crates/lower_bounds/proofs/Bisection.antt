@@ -12,9 +12,10 @@ use lib.IntN.{ℤ, pos}
 use lib.ListN.{length, take, replicate}
 use Rattle.model.specs.Loop.{Loop, size, LoopOk}
 use Rattle.model.specs.Bounds.{Feasible, Stuck}
+use Rattle.model.proofs.File.{accepted_ok}
 use Rattle.model.proofs.Bounds.{each_met, feasible_more, refutes}
 use Rattle.lower_bounds.specs.Rounds.{rounds, met_to, Holds, SmallIn, Rounded}
-use Rattle.lower_bounds.specs.Walks.{Refuted, Decides, RecurrenceIs}
+use Rattle.lower_bounds.specs.Walks.{Refuted, Decides}
 use Rattle.lower_bounds.proofs.Rounds.{MeetsAll, rounds_length, still_met}
 use Rattle.lower_bounds.proofs.Trail.{last_round}
 use Rattle.lower_bounds.proofs.Values.{rounds_below}
@@ -96,29 +97,16 @@ module _ (l : Loop) (ok : LoopOk l) where
   none_below mid w a h f = refutes l ok.dep_ok mid w.walk w.closed w.heavy (feasible_more l a mid h f)
 
   -- the longest interval
-  pub top_no : (r : Bool) → r ≡ false → Decides l 4096 r → RecurrenceIs l 0
-  top_no r e q = record { bound = λ p. absurd (omega arith); within = omega arith; stuck = λ z. go (ever l ok) }
+  pub top_no : (r : Bool) → r ≡ false → Decides l 4096 r → Stuck l
+  top_no r e q = go (ever l ok)
     where
       go : Feasible l 4096 ⊎ Stuck l → Stuck l
       go (inr s) = s
       go (inl f) = absurd (none_below 4096 (q.unmet e) 4096 (omega arith) f)
 
-  pub top_yes : (r : Bool) → r ≡ true → Decides l 4096 r → Between l 1 4096
-  top_yes r e q = record { above = omega arith; order = omega arith; below = omega arith; low = λ a p m. absurd (omega arith); high = q.met e }
-
-  -- the lower half, the upper half
-  pub half_yes : (lo hi mid : ℕ) (r : Bool) → r ≡ true → lo ≤ mid → mid ≤ hi → Between l lo hi → Decides l mid r → Between l lo mid
-  half_yes lo hi mid r e m o b q = record { above = b.above; order = m; below = omega (arith, b.below); low = b.low; high = q.met e }
-
+  -- the upper half
   pub half_no : (lo hi mid : ℕ) (r : Bool) → r ≡ false → lo ≤ mid → mid < hi → Between l lo hi → Decides l mid r → Between l (mid + 1) hi
   half_no lo hi mid r e m o b q = record { above = omega arith; order = omega arith; below = b.below; low = λ a p k. none_below mid (q.unmet e) a (omega arith); high = b.high }
 
-  -- where one is left, it is the bound
-  pub between_found : (lo hi : ℕ) → hi ≤ lo → Between l lo hi → RecurrenceIs l lo
-  between_found lo hi h b =
-      let e : hi ≡ lo = omega (arith, b.order) in
-      record {
-        bound = λ p. record { positive = p; feasible = rw e at b.high; least = b.low };
-        within = omega (arith, b.below);
-        stuck = λ z. absurd (omega (arith, b.above));
-      }
+-- what a round needs, and what it shows where it changed nothing
+pub ruleset rounds_at = (accepted_ok, round_small, round_calm)

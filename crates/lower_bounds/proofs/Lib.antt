@@ -6,6 +6,7 @@ pub mod Values
 pub mod Bound
 pub mod Arrays
 pub mod Bisection
+pub mod Answers
 pub mod AllUses
 pub mod Slots
 pub mod Necessity

@@ -94,16 +94,12 @@ module _ (L : Loop) (ii : ℕ) where
   rounds_length n zero = length-replicate n 0
   rounds_length n (suc r) = relax_to_length (length L.deps) (rounds L ii n r) ∙ rounds_length n r
 
-  -- ---- 2. Starts that a round leaves as they are meet every dependence, and the other way round
+  -- ---- 2. Starts that a round leaves as they are meet every dependence
   pub relax_to_met : (k : ℕ) (xs : List ℕ) → ((j : ℕ) → j < k → Met ii xs (dep_at L j)) → relax_to L ii k xs ≡ xs
   unfolding relax_to
   relax_to_met zero xs h = refl
   relax_to_met (suc k) xs h =
       ap (λ (s : List ℕ). relax ii (dep_at L k) s) (relax_to_met k xs (λ j l. h j (omega arith))) ∙ relax_met ii (dep_at L k) xs (h k (omega arith))
-
-  pub met_still : (xs : List ℕ) → MeetsAll L ii xs → round L ii xs ≡ xs
-  unfolding round
-  met_still xs h = relax_to_met (length L.deps) xs h
 
   module _ (xs : List ℕ) (within : AllWithin (length xs) L) where
     -- values only rise

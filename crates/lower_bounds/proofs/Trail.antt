@@ -20,7 +20,7 @@ use Rattle.model.proofs.Bounds.{Met, each_met, plus_of, minus_of, delay_parts}
 use Rattle.lower_bounds.specs.Walks.{Refuted}
 use Rattle.lower_bounds.proofs.Hole.{Twice, pigeonhole}
 use Rattle.lower_bounds.specs.Rounds.{needed, relax, relax_to, round, rounds}
-use Rattle.lower_bounds.proofs.Rounds.{MeetsAll, AllWithin, relax_met, relax_unmet, set_up, rounds_length, still_met}
+use Rattle.lower_bounds.proofs.Rounds.{MeetsAll, AllWithin, relax_met, relax_unmet, set_up, rounds_length}
 
 -- one more in front
 abbrev before : ℕ → (ℕ → ℕ) → ℕ → ℕ
@@ -322,16 +322,6 @@ module _ (L : Loop) (ii : ℕ) where
         go (inl met) = absurd (omega arith)
         go (inr d) = let g : Deep (suc r) (raised within r xs m.size k l unmet d) (dep_at L k).dst = grown within r xs m.size k l unmet d in long g.trail (le_trans h g.deep)
 
-    pub late_unmet : (r : ℕ) → n ≤ suc r → (k : ℕ) → k < length L.deps → ¬ Met ii (relax_to L ii k (rounds L ii n r)) (dep_at L k) → Refuted L ii
-    late_unmet r h k l o = go (dec_lt (get_or xs (dep_at L k).dst 0) (needed ii xs (dep_at L k)))
-      where
-        xs : List ℕ
-        xs = relax_to L ii k (rounds L ii n r)
-
-        go : Dec (get_or xs (dep_at L k).dst 0 < needed ii xs (dep_at L k)) → Refuted L ii
-        go (yes u) = late r h k l u
-        go (no u) = absurd (o (omega arith))
-
     settled_to : (r : ℕ) → n ≤ suc r → (k : ℕ) → k ≤ length L.deps → (relax_to L ii k (rounds L ii n r) ≡ rounds L ii n r) ⊎ Refuted L ii
     unfolding relax_to
     settled_to r h zero l = inl refl
@@ -349,19 +339,3 @@ module _ (L : Loop) (ii : ℕ) where
     pub last_round : (r : ℕ) → n ≤ suc r → (rounds L ii n (suc r) ≡ rounds L ii n r) ⊎ Refuted L ii
     unfolding rounds round
     last_round r h = settled_to r h (length L.deps) (le_refl (length L.deps))
-
-    pub change_refutes : (r : ℕ) → n ≤ suc r → rounds L ii n (suc r) ≢ rounds L ii n r → Refuted L ii
-    change_refutes r h o = go (last_round r h)
-      where
-        go : (rounds L ii n (suc r) ≡ rounds L ii n r) ⊎ Refuted L ii → Refuted L ii
-        go (inl e) = absurd (o e)
-        go (inr w) = w
-
-    -- so the values after n − 1 rounds already meet all, or none do
-    pub settled : (r : ℕ) → n ≤ suc r → MeetsAll L ii (rounds L ii n r) ⊎ Refuted L ii
-    unfolding rounds
-    settled r h = go (last_round r h)
-      where
-        go : (round L ii (rounds L ii n r) ≡ rounds L ii n r) ⊎ Refuted L ii → MeetsAll L ii (rounds L ii n r) ⊎ Refuted L ii
-        go (inl e) = inl (still_met L ii (rounds L ii n r) (rw (rounds_length L ii n r) within) e)
-        go (inr w) = inr w

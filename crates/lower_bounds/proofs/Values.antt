@@ -45,7 +45,3 @@ module _ (L : Loop) (ii n : ℕ) (within : AllWithin n L) where
   unfolding rounds round
   rounds_below zero i = rw (zeros n i) (omega arith)
   rounds_below (suc r) i = omega (arith, to_below (length L.deps) (le_refl (length L.deps)) (rounds L ii n r) (64 * (length L.deps * r)) (rounds_length L ii n r) (rounds_below r) i, mul-suc (length L.deps) r)
-
-  -- and within the round after
-  pub within_below : (r k : ℕ) → k ≤ length L.deps → AtMost (relax_to L ii k (rounds L ii n r)) (64 * (length L.deps * suc r))
-  within_below r k l i = omega (arith, to_below k l (rounds L ii n r) (64 * (length L.deps * r)) (rounds_length L ii n r) (rounds_below r) i, mul-suc (length L.deps) r)

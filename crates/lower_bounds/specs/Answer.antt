@@ -1,10 +1,11 @@
 -- What the code of the bounds answers. Assumes nothing.
-use Rattle.model.specs.Refusals.{Answer, answered, refused}
+use Rattle.std.specs.Prelude.{Result}
+use Rattle.model.specs.Refusals.{Answer}
 use Rattle.model.specs.Bounds.{Lower}
-use Rattle.lower_bounds.specs.declared.LowerBounds.{LowerBounds}
-use Rattle.lower_bounds.specs.declared.LowerBounds.TheVariants.{Found, Refused}
+use Rattle.refusals.specs.declared.Refusal.{Refusal}
+use Rattle.refusals.specs.Told.{answer_of}
+use Rattle.lower_bounds.specs.declared.Bounds.{Bounds}
 
 -- what `lower` and `bounds` say
-abbrev pub bounds_of : LowerBounds → Answer Lower
-bounds_of (Found a b) = answered (record { resource = a; recurrence = b })
-bounds_of (Refused n d) = refused (record { number = n; detail = d })
+abbrev pub bounds_of : Result Bounds Refusal → Answer Lower
+bounds_of = answer_of (λ b. record { resource = b.resource; recurrence = b.recurrence })

@@ -1,5 +1,5 @@
 -- What rules an interval out, and that by few dependences. Assumes nothing.
-use Rattle.std.specs.Prelude.{◌≡◌, Bool, true, false, List, ℕ, ◌≤◌, length}
+use Rattle.std.specs.Prelude.{◌≡◌, Bool, true, false, List, ℕ, ◌≤◌, length, Option, MatchOption}
 use Rattle.model.specs.Loop.{Loop, size}
 use Rattle.model.specs.Bounds.{Feasible, RecurrenceBound, Closed, Heavy, Stuck}
 
@@ -15,8 +15,6 @@ pub record Decides (l : Loop) (ii : ℕ) (r : Bool) : Type 0 where
   pub met : r ≡ true → Feasible l ii
   pub unmet : r ≡ false → Refuted l ii
 
--- the recurrence bound, or 0 where there is none
-pub record RecurrenceIs (l : Loop) (r : ℕ) : Type 0 where
-  pub bound : 1 ≤ r → RecurrenceBound l r
-  pub within : r ≤ 4096
-  pub stuck : r ≡ 0 → Stuck l
+-- the recurrence bound, which is at most 4,096, or none where a closed walk rules out every interval
+abbrev pub RecurrenceIs : Loop → Option ℕ → Type 0
+RecurrenceIs l r = MatchOption r (Stuck l) (λ b. RecurrenceBound l b × (b ≤ 4096))

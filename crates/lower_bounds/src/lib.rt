@@ -10,33 +10,34 @@ ghost use Rattle.model.specs.File.{loop_of, Accepted};
 ghost use Rattle.model.specs.Bounds.{LowerIs};
 ghost use Rattle.lower_bounds.specs.Answer.{bounds_of};
 
+use refusals::Refusal;
 pub use resource::total_on;
 
-// The resource bound and the recurrence bound, or a refusal with its number and detail.
-#[derive(Clone, Copy)]
-pub enum LowerBounds {
-    Found(usize, usize),
-    Refused(usize, usize),
+// The resource bound and the recurrence bound.
+#[derive(Clone, Copy, Debug, PartialEq, Eq)]
+pub struct Bounds {
+    pub resource: usize,
+    pub recurrence: usize,
 }
 
-// The bounds of an accepted file. Refusal 9 has no place in the code: at 4,096 the dependences can be met, or they never can.
-pub fn lower(file: &[u8]) -> LowerBounds
+impl Bounds {
+    // The larger of the two.
+    pub fn larger(self) -> usize
+        ensures { result ≡ max self.resource self.recurrence }
+    {
+        self.resource.max(self.recurrence)
+    }
+}
+
+// The bounds of an accepted file. Refusal 9 never comes: dependences that can be met at some interval can be met at 4,096.
+pub fn lower(file: &[u8]) -> Result<Bounds, Refusal>
     requires { Accepted file.now }
     ensures { LowerIs (loop_of file.now) (bounds_of result) }
 {
-    let least = recurrence::recurrence(file);
-    if least == 0 {
-        return LowerBounds::Refused(8, 0);
-    }
-    LowerBounds::Found(resource::resource(file), least)
-}
-
-// The larger of two bounds.
-pub fn larger(a: usize, b: usize) -> usize
-    ensures { result ≡ max a b }
-{
-    if a < b {
-        return b;
-    }
-    a
+    let recurrence = recurrence::recurrence(file).ok_or(Refusal::Circle)?;
+    let resource = resource::resource(file);
+    Ok(Bounds {
+        resource,
+        recurrence,
+    })
 }

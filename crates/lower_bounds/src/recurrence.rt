@@ -35,46 +35,40 @@ fn relax(file: &[u8], x: &mut [i32; 64], e: usize, interval: usize) -> bool
 }
 
 // A round over every dependence; whether a path length changed.
+#[tactic(auto, using(crate::proofs::Arrays::turns), unfolding(crate::specs::Rounds::round, crate::specs::Rounds::met_to, crate::specs::Rounds::relax_to))]
 fn round(file: &[u8], x: &mut [i32; 64], interval: usize) -> bool
     requires { Accepted file.now × (interval ≤ 4096) × SmallIn (size (loop_of file.now)) 1048576 x.old }
     ensures { Rounded (loop_of file.now) interval x.old x.new result }
 {
-    let m = dep_count(file);
     let mut changed = false;
-    let mut e = 0;
-    while e < m {
-        let rose = relax(file, x, e, interval);
-        changed = changed | rose;
-        e = e + 1;
+    for e in 0..dep_count(file) {
+        changed |= relax(file, x, e, interval);
     }
     changed
 }
 
 // Whether some starts meet every dependence at the interval. At most one round for each operation.
+#[tactic(auto, using(crate::proofs::Bisection::rounds_at), unfolding(crate::specs::Rounds::rounds))]
 fn feasible(file: &[u8], interval: usize) -> bool
     requires { Accepted file.now × (interval ≤ 4096) }
     ensures { Decides (loop_of file.now) interval result }
 {
-    let n = op_count(file);
     let mut x = [0i32; 64];
-    let mut r = 0;
-    while r < n {
-        let changed = round(file, &mut x, interval);
-        if !changed {
+    for _ in 0..op_count(file) {
+        if !round(file, &mut x, interval) {
             return true;
         }
-        r = r + 1;
     }
     false
 }
 
-// The recurrence bound, or 0 where there is none. What can be met at an interval can be met at every longer one, so the range is halved.
-pub fn recurrence(file: &[u8]) -> usize
+// The recurrence bound, where there is one. What can be met at an interval can be met at every longer one, so the range is halved.
+pub fn recurrence(file: &[u8]) -> Option<usize>
     requires { Accepted file.now }
     ensures { RecurrenceIs (loop_of file.now) result }
 {
     if !feasible(file, 4096) {
-        return 0;
+        return None;
     }
     let mut lo = 1;
     let mut hi = 4096;
@@ -86,5 +80,5 @@ pub fn recurrence(file: &[u8]) -> usize
             lo = mid + 1;
         }
     }
-    lo
+    Some(lo)
 }

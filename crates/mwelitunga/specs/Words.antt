@@ -9,24 +9,21 @@ use Rattle.model.specs.Verifier.{Verdict, is_legal, breach, clash}
 use Rattle.loop_file.specs.Read.{Counts}
 use Rattle.loop_writer.specs.Answer.{bytes_in}
 use Rattle.planner.specs.Answer.{PlanEnd, scheduled, unscheduled, PlansIs, plan_list, plan_rows}
-use Rattle.refusals.specs.declared.Checked.{Checked}
-use Rattle.refusals.specs.declared.Checked.TheVariants as checked
+use Rattle.refusals.specs.Told.{told}
+use Rattle.refusals.specs.declared.Refusal as code
+use Rattle.search.specs.Unsolved.{ended_number, ended_detail, ended_probes}
+use Rattle.search.specs.declared.Unsolved.{Unsolved}
 use Rattle.replay.specs.Words.{Gives}
 
--- a check's number and detail, 0 where nothing is against it
-abbrev pub check_number : Checked → ℕ
-check_number checked.Fine = 0
-check_number (checked.Refused n d) = n
+-- a refusal: its number is returned, its detail written
+pub record RefusalGiven (c : code.Refusal) (r : ℕ) (before after : List ℕ) : Type 0 where
+  pub number : r ≡ (told c).number
+  pub words : after ≡ written 0 ((told c).detail ∷ 0 ∷ 0 ∷ 0 ∷ 0 ∷ 0 ∷ 0 ∷ 0 ∷ []) before
 
--- the detail
-abbrev pub check_detail : Checked → ℕ
-check_detail checked.Fine = 0
-check_detail (checked.Refused n d) = d
-
--- a check's refusal: its number is returned, its detail written
-pub record RefusalGiven (c : Checked) (r : ℕ) (before after : List ℕ) : Type 0 where
-  pub number : r ≡ check_number c
-  pub words : after ≡ written 0 (check_detail c ∷ 0 ∷ 0 ∷ 0 ∷ 0 ∷ 0 ∷ 0 ∷ 0 ∷ []) before
+-- an end without a schedule: the same with the probes that were made
+pub record UnsolvedGiven (u : Unsolved) (r : ℕ) (before after : List ℕ) : Type 0 where
+  pub number : r ≡ ended_number u
+  pub words : after ≡ written 0 (ended_detail u ∷ 0 ∷ 0 ∷ 0 ∷ 0 ∷ ended_probes u ∷ 0 ∷ 0 ∷ []) before
 
 -- operations, uses, dependences
 abbrev pub count_words : Counts → List ℕ

@@ -10,45 +10,37 @@ ghost use Rattle.model.specs.Verifier.{verify_file};
 ghost use Rattle.loop_file.specs.Read.{counted};
 ghost use Rattle.loop_writer.specs.Answer.{fields_by};
 ghost use Rattle.replay.specs.Words.{Gives};
-ghost use Rattle.mwelitunga.specs.Words.{RefusalGiven, count_words, verdict_words, flag, WriteGiven, BoundsGiven, SearchGiven, PlanGiven};
+ghost use Rattle.mwelitunga.specs.Words.{RefusalGiven, UnsolvedGiven, count_words, verdict_words, WriteGiven, BoundsGiven, SearchGiven, PlanGiven};
 ghost use Rattle.replay.specs.Replay.{Replayed};
 
-use bounds::LowerBounds;
-use loop_file::Reading;
-use loop_writer::Written;
-use planner::Planned;
-use refusals::Checked;
-use search::Searched;
+use refusals::Refusal;
+use search::Unsolved;
 use verifier::Verdict;
 
 // The eight numbers of an answer, the last two 0.
+#[tactic(auto, unfolding(model::specs::Lists::written))]
 fn write_answer(answer: &mut [u64; 8], a: usize, b: usize, c: usize, d: usize, e: usize, f: usize)
     ensures { answer.new ≡ written 0 (a ∷ b ∷ c ∷ d ∷ e ∷ f ∷ 0 ∷ 0 ∷ []) answer.old }
 {
-    answer[0] = a as u64;
-    answer[1] = b as u64;
-    answer[2] = c as u64;
-    answer[3] = d as u64;
-    answer[4] = e as u64;
-    answer[5] = f as u64;
-    answer[6] = 0;
-    answer[7] = 0;
+    *answer = [
+        a as u64, b as u64, c as u64, d as u64, e as u64, f as u64, 0, 0,
+    ];
 }
 
-// The eight numbers of a check's refusal, whose number is returned. (A check that is fine has none, and is not asked for one.)
-fn write_refusal(answer: &mut [u64; 8], c: Checked) -> usize
-    ensures { RefusalGiven c result answer.old answer.new }
+// The eight numbers of a refusal, whose number is returned.
+fn write_refusal(answer: &mut [u64; 8], refusal: Refusal) -> usize
+    ensures { RefusalGiven refusal result answer.old answer.new }
 {
-    match c {
-        Checked::Fine => {
-            write_answer(answer, 0, 0, 0, 0, 0, 0);
-            0
-        }
-        Checked::Refused(number, detail) => {
-            write_answer(answer, detail, 0, 0, 0, 0, 0);
-            number
-        }
-    }
+    write_answer(answer, refusal.detail(), 0, 0, 0, 0, 0);
+    refusal.number()
+}
+
+// Those of an end without a schedule: the probes stand behind the detail, where a schedule has its own.
+fn write_unsolved(answer: &mut [u64; 8], unsolved: Unsolved) -> usize
+    ensures { UnsolvedGiven unsolved result answer.old answer.new }
+{
+    write_answer(answer, unsolved.detail(), 0, 0, 0, 0, unsolved.probes());
+    unsolved.number()
 }
 
 // Reads a loop file: the numbers of operations, uses and dependences.
@@ -56,16 +48,20 @@ fn write_refusal(answer: &mut [u64; 8], c: Checked) -> usize
 pub extern "C" fn mw_read(file: &[u8], answer: &mut [u64; 8]) -> usize
     ensures { Gives (counted (read_file file.now)) count_words result answer.old answer.new }
 {
-    let reading = loop_file::read(file);
-    match reading {
-        Reading::Accepted(ops, uses, deps) => {
-            write_answer(answer, 0, ops, uses, deps, 0, 0);
+    match loop_file::read(file) {
+        Ok(counts) => {
+            write_answer(
+                answer,
+                0,
+                counts.operations,
+                counts.uses,
+                counts.dependences,
+                0,
+                0,
+            );
             0
         }
-        Reading::Refused(number, detail) => {
-            write_answer(answer, detail, 0, 0, 0, 0, 0);
-            number
-        }
+        Err(refusal) => write_refusal(answer, refusal),
     }
 }
 
@@ -80,34 +76,27 @@ pub extern "C" fn mw_write(
 ) -> usize
     ensures { WriteGiven (fields_by ops.now uses.now deps.now) buffer.old answer.old result buffer.new answer.new }
 {
-    let written = loop_writer::write(ops, uses, deps, buffer);
-    match written {
-        Written::Bytes(bytes) => {
+    match loop_writer::write(ops, uses, deps, buffer) {
+        Ok(bytes) => {
             write_answer(answer, 0, bytes, 0, 0, 0, 0);
             0
         }
-        Written::Refused(number, detail) => {
-            write_answer(answer, detail, 0, 0, 0, 0, 0);
-            number
-        }
+        Err(refusal) => write_refusal(answer, refusal),
     }
 }
 
 // The two lower bounds: resource, recurrence.
+#[tactic(auto, using(crate::proofs::Words::bounds_told))]
 #[unsafe(no_mangle)]
 pub extern "C" fn mw_bounds(file: &[u8], answer: &mut [u64; 8]) -> usize
     ensures { BoundsGiven file.now result answer.old answer.new }
 {
-    let lower = bounds::bounds(file);
-    match lower {
-        LowerBounds::Found(resource, recurrence) => {
-            write_answer(answer, 0, resource, recurrence, 0, 0, 0);
+    match bounds::bounds(file) {
+        Ok(found) => {
+            write_answer(answer, 0, found.resource, found.recurrence, 0, 0, 0);
             0
         }
-        LowerBounds::Refused(number, detail) => {
-            write_answer(answer, detail, 0, 0, 0, 0, 0);
-            number
-        }
+        Err(refusal) => write_refusal(answer, refusal),
     }
 }
 
@@ -121,24 +110,20 @@ pub extern "C" fn mw_verify(
 ) -> usize
     ensures { Gives (verify_file file.now interval starts.now) verdict_words result answer.old answer.new }
 {
-    let verdict = verifier::verify(file, interval, starts);
-    match verdict {
-        Verdict::Legal => {
+    match verifier::verify(file, interval, starts) {
+        Ok(Verdict::Legal) => {
             write_answer(answer, 0, 0, 0, 0, 0, 0);
             0
         }
-        Verdict::Broken(e) => {
+        Ok(Verdict::Broken(e)) => {
             write_answer(answer, 0, 1, e, 0, 0, 0);
             0
         }
-        Verdict::Conflict(a, b, place) => {
+        Ok(Verdict::Conflict(a, b, place)) => {
             write_answer(answer, 0, 2, a, b, place, 0);
             0
         }
-        Verdict::Refused(number, detail) => {
-            write_answer(answer, detail, 0, 0, 0, 0, 0);
-            number
-        }
+        Err(refusal) => write_refusal(answer, refusal),
     }
 }
 
@@ -155,9 +140,8 @@ pub extern "C" fn mw_search(
 ) -> usize
     ensures { SearchGiven file.now cap horizon budget starts.old rows.old answer.old result starts.new rows.new answer.new }
 {
-    let searched = search::search(file, cap, horizon, budget, starts, rows);
-    match searched {
-        Searched::Found(s) => {
+    match search::search(file, cap, horizon, budget, starts, rows) {
+        Ok(s) => {
             write_answer(
                 answer,
                 0,
@@ -169,25 +153,8 @@ pub extern "C" fn mw_search(
             );
             0
         }
-        Searched::Ended(number, detail, probes) => {
-            write_answer(answer, detail, 0, 0, 0, 0, probes);
-            number
-        }
-        Searched::Refused(number, detail) => {
-            write_answer(answer, detail, 0, 0, 0, 0, 0);
-            number
-        }
+        Err(unsolved) => write_unsolved(answer, unsolved),
     }
-}
-
-// A yes or no as a number: 1 or 0.
-fn as_number(b: bool) -> usize
-    ensures { result ≡ flag b }
-{
-    if b {
-        return 1;
-    }
-    0
 }
 
 // The plan: interval, resource bound, recurrence bound, stages, and 1 where no smaller interval has a schedule, else 0; the starts in the list. Refusals 10 and 11 tell the probes, where those of the search stand.
@@ -203,9 +170,8 @@ pub extern "C" fn mw_plan(
 ) -> usize
     ensures { PlanGiven file.now cap horizon budget starts.old rows.old answer.old result starts.new rows.new answer.new }
 {
-    let planned = planner::plan(file, cap, horizon, budget, starts, rows);
-    match planned {
-        Planned::Found(p) => {
+    match planner::plan(file, cap, horizon, budget, starts, rows) {
+        Ok(p) => {
             write_answer(
                 answer,
                 0,
@@ -213,18 +179,11 @@ pub extern "C" fn mw_plan(
                 p.resource,
                 p.recurrence,
                 p.stages,
-                as_number(p.smallest),
+                p.smallest as usize,
             );
             0
         }
-        Planned::Ended(number, detail, count) => {
-            write_answer(answer, detail, 0, 0, 0, 0, count);
-            number
-        }
-        Planned::Refused(number, detail) => {
-            write_answer(answer, detail, 0, 0, 0, 0, 0);
-            number
-        }
+        Err(unsolved) => write_unsolved(answer, unsolved),
     }
 }
 
@@ -268,18 +227,16 @@ pub extern "C" fn mw_session(
 ) -> usize
     ensures { Replayed file.now interval horizon calls.now rows.old replies.old starts.old free.old answer.old result rows.new replies.new starts.new free.new answer.new }
 {
-    let checked = replay::unfit(calls, replies.len());
-    let Checked::Fine = checked else {
-        return write_refusal(answer, checked);
-    };
-    let opening = session::open(file, interval, horizon, rows);
-    let opened = opening.answer;
-    let Checked::Fine = opened else {
-        return write_refusal(answer, opened);
+    // The refusals are written here, and `let .. else` could not name them.
+    if let Err(refusal) = replay::unfit(calls, replies.len()) {
+        return write_refusal(answer, refusal);
+    }
+    let mut begun = match session::open(file, interval, horizon, rows) {
+        Ok(session) => session,
+        Err(refusal) => return write_refusal(answer, refusal),
     };
     let n = calls.len() / 3;
-    let begun = opening.session;
-    let marks = replay::run(begun, rows, calls, n, replies, starts, free);
+    let marks = replay::run(&mut begun, rows, calls, n, replies, starts, free);
     write_answer(answer, 0, n, marks, 0, 0, 0);
     0
 }

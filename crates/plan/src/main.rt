@@ -1,20 +1,20 @@
 // Reads a loop file from standard input to its end, and prints the planner's schedule, or the refusal.
 #![tactic(auto)]
 
-use planner::{PlanFound, Planned};
+use planner::PlanFound;
 
 // `interval I resource R recurrence B stages S`, and `smallest` where no smaller interval has a schedule, else `legal`.
 fn summary(f: PlanFound) {
-    let numbers = [f.interval, f.resource, f.recurrence, f.stages, 0];
+    let numbers = [f.interval, f.resource, f.recurrence, f.stages];
     if f.smallest {
-        console::form(
+        console::list(
             b"interval % resource % recurrence % stages % smallest\n",
-            numbers,
+            &numbers,
         );
     } else {
-        console::form(
+        console::list(
             b"interval % resource % recurrence % stages % legal\n",
-            numbers,
+            &numbers,
         );
     }
 }
@@ -24,27 +24,16 @@ fn plan(file: &[u8]) {
     let mut list = [0u16; 64];
     let mut rows = [0u64; 4096];
     match planner::plan(file, 4096, 256, 1000000, &mut list, &mut rows) {
-        Planned::Found(found) => {
+        Ok(found) => {
             summary(found);
             listing::print(file, found.interval, &list);
         }
-        Planned::Ended(number, detail, _) => {
-            listing::refused(number, detail);
-        }
-        Planned::Refused(number, detail) => {
-            listing::refused(number, detail);
-        }
+        Err(unsolved) => listing::refused(unsolved.number(), unsolved.detail()),
     }
 }
 
 // Keeps 1,691 bytes of the input, one more than the longest loop file has.
 fn main(rt: HostRuntime) {
     let mut bytes = [0u8; 1691];
-    let input = console::read_all(&mut rt.stdin(), &mut bytes);
-    let n = input.count;
-    if input.whole {
-        plan(&bytes[..n]);
-    } else {
-        io::write_all(1, b"cannot read\n");
-    }
+    console::with_input(&mut rt.stdin(), &mut bytes, plan);
 }

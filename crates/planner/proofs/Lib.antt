@@ -1,4 +1,4 @@
 -- Hand-written laws of the crate that belong to no one function.
 pub mod Plans
-pub mod Answers
 pub mod Lists
+pub mod Answers

@@ -1,5 +1,5 @@
 -- What `plan` answers and leaves. Assumes nothing.
-use Rattle.std.specs.Prelude.{◌≡◌, Bool, true, List, ◌++◌, ◌⊎◌, ℕ, ◌≤◌, ◌<◌, length, take, drop, replicate}
+use Rattle.std.specs.Prelude.{◌≡◌, Bool, true, List, ◌++◌, ◌⊎◌, ℕ, ◌≤◌, ◌<◌, length, take, drop, replicate, Result, Ok, Err}
 use Rattle.std.proofs.Math.Option.{none, some}
 use Rattle.model.specs.Refusals.{Refusal, first_refusal, Answer, answered, refused}
 use Rattle.model.specs.Loop.{Loop, size}
@@ -8,8 +8,10 @@ use Rattle.model.specs.Legality.{legal}
 use Rattle.model.specs.Bounds.{Lower, LowerIs}
 use Rattle.model.specs.Search.{stage_count, Request, Schedule, search_checks}
 use Rattle.search.specs.Demand2.{Listed, NoneAt, larger, ten, eleven, FoundIs, TenIs, ElevenIs}
-use Rattle.planner.specs.declared.Planned.{Planned}
-use Rattle.planner.specs.declared.Planned.TheVariants as planned
+use Rattle.refusals.specs.Told.{refusal, told}
+use Rattle.search.specs.declared.Unsolved.{Unsolved}
+use Rattle.search.specs.declared.Unsolved.TheVariants.{NoSchedule, BudgetSpent, Refused}
+use Rattle.planner.specs.declared.PlanFound.{PlanFound}
 
 -- ---- the answer
 
@@ -27,8 +29,8 @@ pub data PlanEnd : Type 0 where
   unscheduled : Refusal → (count : ℕ) → PlanEnd
 
 -- what `plan` says of a loop, with the starts that the list then holds: one for each operation
-abbrev pub plan_of : Loop → List ℕ → Planned → Answer PlanEnd
-plan_of l list (planned.Found p) =
+abbrev pub plan_of : Loop → List ℕ → Result PlanFound Unsolved → Answer PlanEnd
+plan_of l list (Ok p) =
     answered
     (scheduled
     (record {
@@ -38,8 +40,9 @@ plan_of l list (planned.Found p) =
       smallest = p.smallest;
       starts = take (size l) list;
     }))
-plan_of l list (planned.Ended n d k) = answered (unscheduled (record { number = n; detail = d }) k)
-plan_of l list (planned.Refused n d) = refused (record { number = n; detail = d })
+plan_of l list (Err (NoSchedule cap k)) = answered (unscheduled (refusal 10 cap) k)
+plan_of l list (Err (BudgetSpent ii k)) = answered (unscheduled (refusal 11 ii) k)
+plan_of l list (Err (Refused r)) = refused (told r)
 
 -- ---- when it is right
 
@@ -97,7 +100,7 @@ plan_rows (refused r) old = old
 -- ---- the whole call
 
 -- the answer r to a file and a request, with a list and a table that end as list' and rows'
-pub record Plans (f : List ℕ) (cap horizon budget : ℕ) (list rows : List ℕ) (r : Planned) (list' rows' : List ℕ) : Type 0 where
+pub record Plans (f : List ℕ) (cap horizon budget : ℕ) (list rows : List ℕ) (r : Result PlanFound Unsolved) (list' rows' : List ℕ) : Type 0 where
   pub says : PlansIs f (record { cap = cap; horizon = horizon; budget = budget }) (length list) (length rows) (plan_of (loop_of f) list' r)
   pub list_is : list' ≡ plan_list (plan_of (loop_of f) list' r) list
   pub rows_are : rows' ≡ plan_rows (plan_of (loop_of f) list' r) rows

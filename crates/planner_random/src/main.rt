@@ -7,52 +7,70 @@ mod drawing;
 mod judge;
 mod outcome;
 
-use outcome::Outcome;
+use outcome::{NoPlan, Outcome};
 use trial::tally::more;
 
-// The generator's state, and the counts in the order of the line that prints them: how many loops agree, how many there are, the answers of each kind, and those of the heuristic alone where there is a schedule.
+// What is counted, in the order of the line that prints it: the loops that agree, and all; the answers of each kind; and those of the heuristic alone, where there is a schedule.
+#[derive(Clone, Copy)]
+enum Count {
+    Agree,
+    All,
+    Found,
+    AboveBounds,
+    Unschedulable,
+    Cyclic,
+    Smallest,
+    AboveSmallest,
+    NoneFound,
+}
+
+// The generator's state, and the counts.
 #[derive(Drop)]
 struct Tally {
     seed: usize,
     counts: [usize; 9],
 }
 
-// The count that an answer belongs to: 2 found, 4 none, 5 cyclic, 9 any other.
-fn kind(number: usize) -> usize {
-    match number {
-        0 => 2,
-        10 => 4,
-        8 => 5,
-        _ => 9,
+// The count that an answer belongs to.
+fn kind(o: Outcome) -> Option<Count> {
+    match o.plan {
+        Ok(_) => Some(Count::Found),
+        Err(NoPlan::Unschedulable) => Some(Count::Unschedulable),
+        Err(NoPlan::Cyclic) => Some(Count::Cyclic),
+        Err(_) => None,
     }
 }
 
-// The narrower count: 3 a schedule above the bounds, else 9.
-fn narrower(o: Outcome) -> usize {
-    if o.bound < o.interval { 3 } else { 9 }
+// The narrower count: of a schedule above the bounds.
+fn narrower(o: Outcome) -> Option<Count> {
+    match o.plan {
+        Ok(plan) if plan.bound < plan.interval => Some(Count::AboveBounds),
+        _ => None,
+    }
 }
 
-// The count of the heuristic alone: 6 the smallest interval, 7 one above it, 8 none; and 9 where there is no schedule.
-fn by_heuristic(interval: usize, least: usize) -> usize {
-    if least == 0 {
-        return 9;
-    }
-    if interval == 0 {
-        return 8;
-    }
-    if least < interval { 7 } else { 6 }
+// The count of the heuristic alone, where there is a schedule: the smallest interval, one above it, or none.
+fn by_heuristic(o: Outcome, least: Option<usize>) -> Option<Count> {
+    let best = least?;
+    Some(match o.plan {
+        Ok(plan) if best < plan.interval => Count::AboveSmallest,
+        Ok(_) => Count::Smallest,
+        Err(_) => Count::NoneFound,
+    })
 }
 
-// 0, where a loop that agrees is counted, or 9, and a line that says that it does not, with its smallest interval, the planner's and the heuristic's.
-fn told(agrees: bool, i: usize, least: usize, planned: usize, alone: usize) -> usize {
-    if agrees {
-        return 0;
+// The interval of a schedule, or 0, as a line prints it.
+fn interval(o: Outcome) -> usize {
+    match o.plan {
+        Ok(plan) => plan.interval,
+        Err(_) => 0,
     }
-    console::form(
-        b"loop %: differ, at % and % and %\n",
-        [i, least, planned, alone, 0],
-    );
-    9
+}
+
+// Says that a loop does not agree, with its smallest interval, the planner's and the heuristic's.
+fn differ(i: usize, least: Option<usize>, planned: Outcome, alone: Outcome) {
+    let numbers = [i, least.unwrap_or(0), interval(planned), interval(alone)];
+    console::list(b"loop %: differ, at % and % and %\n", &numbers);
 }
 
 // The tally with loop i, which is drawn from its state.
@@ -61,41 +79,40 @@ fn with(t: Tally, i: usize) -> Tally {
     let least = judge::smallest(d);
     let o = outcome::planned(d, 1000000);
     let quick = outcome::planned(d, 1);
-    let agrees = judge::exact(d, o, least) & judge::alone(d, quick, least);
-    let before = t.counts;
-    let agreed = more(before, told(agrees, i, least, o.interval, quick.interval));
-    let sorted = more(more(more(agreed, 1), kind(o.number)), narrower(o));
+    let agrees = judge::exact(d, o, least) && judge::alone(d, quick, least);
+    if !agrees {
+        differ(i, least, o, quick);
+    }
+    let kinds = [
+        agrees.then_some(Count::Agree),
+        Some(Count::All),
+        kind(o),
+        narrower(o),
+        by_heuristic(quick, least),
+    ];
+    let counts = kinds
+        .into_iter()
+        .flatten()
+        .fold(t.counts, |counts, kind| more(counts, kind as usize));
     Tally {
         seed: d.seed,
-        counts: more(sorted, by_heuristic(quick.interval, least)),
+        counts,
     }
-}
-
-// The tally with loops `from` to `to` - 1.
-fn through(from: usize, to: usize, t: Tally) -> Tally {
-    let mut out = t;
-    let mut i = from;
-    while i < to {
-        out = with(out, i);
-        i += 1;
-    }
-    out
 }
 
 // A line for each 100 loops, with those before them.
 fn main() {
     let mut t = Tally {
         seed: 1,
-        counts: [0usize; 9],
+        counts: [0; 9],
     };
-    let mut i = 0;
-    while i < 1000 {
-        t = through(i, i + 100, t);
-        i += 100;
-        let counts = t.counts;
-        console::list(
-            b"% of % agree: found % (% above the bounds), none %, cyclic %; the heuristic alone: smallest %, above %, none %\n",
-            &counts,
-        );
+    for i in 0..1000 {
+        t = with(t, i);
+        if i % 100 == 99 {
+            console::list(
+                b"% of % agree: found % (% above the bounds), none %, cyclic %; the heuristic alone: smallest %, above %, none %\n",
+                &t.counts,
+            );
+        }
     }
 }

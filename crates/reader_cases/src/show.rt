@@ -3,8 +3,6 @@ ghost use Rattle.std.specs.Prelude.{◌<◌, length};
 ghost use Rattle.model.specs.Loop.{size, all_uses};
 ghost use Rattle.model.specs.File.{loop_of, Accepted};
 
-use loop_file::Reading;
-
 // Text, and a number after it.
 pub fn number(text: &[u8], n: usize) {
     io::write_all(1, text);
@@ -16,35 +14,26 @@ fn end() {
     io::write_all(1, b"\n");
 }
 
-// How far x is from 0.
-fn magnitude(x: i32) -> u64 {
-    if x < 0 {
-        (0 - x as i64) as u64
-    } else {
-        x as u64
-    }
-}
-
 // Text, and a number after it that may be below 0.
 fn signed(text: &[u8], x: i32) {
     io::write_all(1, text);
     if x < 0 {
         io::write_all(1, b"-");
     }
-    io::print_decimal(1, magnitude(x));
+    io::print_decimal(1, u64::from(x.unsigned_abs()));
 }
 
 // The reader's answer on a file, as the end of a line.
 pub fn answer(file: &[u8]) {
     match loop_file::read(file) {
-        Reading::Accepted(ops, uses, deps) => {
-            number(b": accepted ", ops);
-            number(b" ", uses);
-            number(b" ", deps);
+        Ok(counts) => {
+            number(b": accepted ", counts.operations);
+            number(b" ", counts.uses);
+            number(b" ", counts.dependences);
         }
-        Reading::Refused(refusal, detail) => {
-            number(b": refused ", refusal);
-            number(b" at ", detail);
+        Err(refusal) => {
+            number(b": refused ", refusal.number());
+            number(b" at ", refusal.detail());
         }
     }
     end();
@@ -73,11 +62,8 @@ fn operation(file: &[u8], o: usize)
 fn operations(file: &[u8])
     requires { Accepted file.now }
 {
-    let n = loop_access::op_count(file);
-    let mut o = 0;
-    while o < n {
+    for o in 0..loop_access::op_count(file) {
         operation(file, o);
-        o = o + 1;
     }
 }
 
@@ -96,11 +82,8 @@ fn one_use(file: &[u8], u: usize)
 fn uses(file: &[u8])
     requires { Accepted file.now }
 {
-    let n = loop_access::use_total(file);
-    let mut u = 0;
-    while u < n {
+    for u in 0..loop_access::use_total(file) {
         one_use(file, u);
-        u = u + 1;
     }
 }
 
@@ -120,17 +103,15 @@ fn dependence(file: &[u8], e: usize)
 fn dependences(file: &[u8])
     requires { Accepted file.now }
 {
-    let n = loop_access::dep_count(file);
-    let mut e = 0;
-    while e < n {
+    for e in 0..loop_access::dep_count(file) {
         dependence(file, e);
-        e = e + 1;
     }
 }
 
 // Every operation, use and dependence of a file; of a refused one none.
+#[tactic(auto, using(loop_file::proofs::Answers::read_accepted))]
 fn records(file: &[u8]) {
-    if let Reading::Accepted(_, _, _) = loop_file::read(file) {
+    if let Ok(_) = loop_file::read(file) {
         operations(file);
         uses(file);
         dependences(file);

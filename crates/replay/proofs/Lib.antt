@@ -1,4 +1,4 @@
 -- Hand-written laws of the crate that belong to no one function.
-pub mod CallParts
+pub mod CallChecks
 pub mod Words
 pub mod Replays

@@ -1,76 +1,36 @@
 -- A list of calls replayed: which call three numbers are, whether the list is fit, the calls made one after the other, and what the whole comes to. Assumes nothing.
 use mathlib.Core.Path.{◌≡◌, refl, sym, ap, ap₂, ◌∙◌, subst}
-use mathlib.Core.Bool.{true, false}
 use mathlib.Core.List.{List, [], ◌∷◌, ◌++◌, map, flat_map}
 use mathlib.Core.Option.{Option, none, some}
-use Prim.Native.Nat.{ℕ, ◌+◌, ◌*◌, ◌≤◌, ◌<◌}
+use Prim.Native.Nat.{ℕ, ◌+◌, ◌*◌, ◌≤◌}
 use native.Mathlib.Omega.{arith}
-use borrow.Author.Tests.{lt-ltb, le-ltb, ltb-false}
-use lib.ListN.{length, get_or}
+use borrow.Author.Tests.{ltb-false}
+use lib.ListN.{length}
 use Rattle.model.specs.Lists.{up_from, written}
-use Rattle.model.specs.Refusals.{Refusal, outside, first_refusal, Answer, answered, refused, settled}
+use Rattle.std.specs.Prelude.{Result, Ok, Err}
+use Rattle.model.specs.Refusals.{Refusal, first_refusal, Answer, answered, refused, settled}
 use Rattle.model.specs.Session.{Setup, State, Call, open_checks, open_file, open_rows, after, replies}
 use Rattle.model.specs.Session as model
 use Rattle.model.proofs.Lists.{up_from_snoc, length_tabulate, map_append, written_more}
 use Rattle.model.proofs.Checks.{refusal_append, refusal_early, passes_head, passes_tail, passes_right}
+use Rattle.refusals.specs.Told.{told}
 use Rattle.board.specs.Board.{setup_as}
 use Rattle.board.specs.Moves.{reply_of}
 use Rattle.session.specs.View.{Stepped, Opened}
 use Rattle.session.specs.Undo.{Run, stop}
 use Rattle.session.specs.declared.Session.{Session}
 use Rattle.board.specs.declared.Reply.{Reply}
-use Rattle.refusals.specs.declared.Checked.{Checked}
-use Rattle.refusals.specs.declared.Checked.TheVariants as checked
+use Rattle.refusals.specs.declared.Refusal as code
 use Rattle.session.proofs.Calls.{stands_free, stands_marks, run_then, run_count, from_open, ran}
 use Rattle.replay.specs.Words.{number_of, words_of}
 use Rattle.replay.specs.Replay.{call_count, call_at, first_calls, calls_of, kind_check, call_checks, replay_file, reply_words, all_words, start_words, end_words, replies_left, starts_left, free_left, rows_left, Replayed, Made}
 use Rattle.replay.proofs.Words.{words_length, words_then, starts_told}
 
--- ---- whether a call has a kind
+-- ---- what fit calls have
 
-module _ (xs : List ℕ) where
-  -- of no call nothing is asked
-  pub kind_none : first_refusal (flat_map (kind_check xs) (up_from 0 0)) ≡ none
-  unfolding up_from flat_map first_refusal
-  kind_none = refl
-
-  pub kind_fails : (i : ℕ) → outside 6 (get_or xs (3 * i) 0) ≡ true → first_refusal (kind_check xs i) ≡ some (record { number = 255; detail = i })
-  unfolding first_refusal
-  kind_fails i e = rw e refl
-
-  pub kind_passes : (i : ℕ) → outside 6 (get_or xs (3 * i) 0) ≡ false → first_refusal (kind_check xs i) ≡ none
-  unfolding first_refusal
-  kind_passes i e = rw e refl
-
--- ---- whether the calls are fit to be replayed
-
-module _ (xs : List ℕ) (room : ℕ) where
-  pub unfit_kind : {n d : ℕ} → first_refusal (flat_map (kind_check xs) (up_from 0 (call_count xs))) ≡ some (record { number = n; detail = d })
-      → first_refusal (call_checks xs room) ≡ some (record { number = n; detail = d })
-  unfolding call_checks
-  unfit_kind e = refusal_early (flat_map (kind_check xs) (up_from 0 (call_count xs))) _ _ e
-
-  module _ (kinds : first_refusal (flat_map (kind_check xs) (up_from 0 (call_count xs))) ≡ none) where
-    pub unfit_cut : 3 * call_count xs < length xs → first_refusal (call_checks xs room) ≡ some (record { number = 255; detail = call_count xs })
-    unfolding call_checks first_refusal
-    unfit_cut l = refusal_append (flat_map (kind_check xs) (up_from 0 (call_count xs))) _ kinds ∙ rw (lt-ltb (3 * call_count xs) (length xs) l) refl
-
-    module _ (whole : length xs ≤ 3 * call_count xs) where
-      pub unfit_room : room < 2 * call_count xs → first_refusal (call_checks xs room) ≡ some (record { number = 254; detail = room })
-      unfolding call_checks first_refusal
-      unfit_room l =
-          refusal_append (flat_map (kind_check xs) (up_from 0 (call_count xs))) _ kinds ∙ rw (le-ltb (3 * call_count xs) (length xs) whole, lt-ltb room (2 * call_count xs) l) refl
-
-      pub fit : 2 * call_count xs ≤ room → first_refusal (call_checks xs room) ≡ none
-      unfolding call_checks first_refusal
-      fit l =
-          refusal_append (flat_map (kind_check xs) (up_from 0 (call_count xs))) _ kinds ∙ rw (le-ltb (3 * call_count xs) (length xs) whole, le-ltb room (2 * call_count xs) l) refl
-
-  -- what fit calls have
-  module _ (none_fails : first_refusal (call_checks xs room) ≡ none) where
-    pub fit_room : 2 * call_count xs ≤ room
-    unfolding call_checks
-    fit_room = ltb-false room (2 * call_count xs) (passes_head _ _ (passes_tail _ _ (passes_right (flat_map (kind_check xs) (up_from 0 (call_count xs))) _ none_fails)))
+pub fit_room : (xs : List ℕ) (room : ℕ) → first_refusal (call_checks xs room) ≡ none → 2 * call_count xs ≤ room
+unfolding call_checks
+fit_room xs room e = ltb-false room (2 * call_count xs) (passes_head _ _ (passes_tail _ _ (passes_right (flat_map (kind_check xs) (up_from 0 (call_count xs))) _ e)))
 
 -- ---- calls one after the other
 
@@ -92,7 +52,7 @@ module _ (xs : List ℕ) where
   made_none s rows old = record { answers = []; run = stop; words = refl }
 
   -- one more
-  pub made_next : (i : ℕ) {s t t' : Session} {rows rows' rows'' old new new' : List ℕ} {r : Reply} → Walked (first_calls xs i) s rows old t rows' new
+  pub made_next : (i : ℕ) {s t t' : Session} {rows rows' rows'' old new new' : List ℕ} {r : Result Reply code.Refusal} → Walked (first_calls xs i) s rows old t rows' new
       → Stepped (call_at xs i) t rows' t' rows'' r → new' ≡ written (2 * i) (reply_words (reply_of r)) new → Walked (first_calls xs (i + 1)) s rows old t' rows'' new'
   made_next i {s} {t' = t'} {rows} {rows'' = rows''} {old = old} {r = r} m t e =
       let rs = m.answers in
@@ -108,19 +68,15 @@ module _ (xs : List ℕ) where
 
 -- ---- the whole
 
--- opening, once its answer's case is known
-pub opened_is : {f : List ℕ} {ii h : ℕ} {rows rows' : List ℕ} {s : Session} {a x : Checked} → Opened f ii h rows s a rows' → a ≡ x → Opened f ii h rows s x rows'
-opened_is {f} {ii} {h} {rows} {rows'} {s} o e = subst (λ (y : Checked). Opened f ii h rows s y rows') e o
-
 module _ (f : List ℕ) (ii h : ℕ) (calls rows replies starts free before after : List ℕ) where
   -- what the model says of it
   abbrev says : Answer Setup
   says = replay_file f ii h calls (length rows) (length replies)
 
   -- refused: nothing is written but the answer
-  replayed_refused : (n d : ℕ) → says ≡ refused (record { number = n; detail = d }) → after ≡ written 0 (d ∷ 0 ∷ 0 ∷ 0 ∷ 0 ∷ 0 ∷ 0 ∷ 0 ∷ []) before
-      → Replayed f ii h calls rows replies starts free before n rows replies starts free after
-  replayed_refused n d e w =
+  replayed_refused : (r : code.Refusal) → says ≡ refused (told r) → after ≡ written 0 ((told r).detail ∷ 0 ∷ 0 ∷ 0 ∷ 0 ∷ 0 ∷ 0 ∷ 0 ∷ []) before
+      → Replayed f ii h calls rows replies starts free before (told r).number rows replies starts free after
+  replayed_refused r e w =
       record {
         gives = record { number = ap number_of (sym e); words = w ∙ ap (λ (a : Answer Setup). written 0 (words_of (end_words (calls_of calls)) a) before) (sym e) };
         replies_are = ap (λ (a : Answer Setup). replies_left (calls_of calls) a replies) (sym e);
@@ -130,11 +86,11 @@ module _ (f : List ℕ) (ii h : ℕ) (calls rows replies starts free before afte
       }
 
   -- for the calls
-  pub calls_refused : (n d : ℕ) → first_refusal (call_checks calls (length replies)) ≡ some (record { number = n; detail = d })
-      → after ≡ written 0 (d ∷ 0 ∷ 0 ∷ 0 ∷ 0 ∷ 0 ∷ 0 ∷ 0 ∷ []) before → Replayed f ii h calls rows replies starts free before n rows replies starts free after
+  pub calls_refused : (r : code.Refusal) → some (told r) ≡ first_refusal (call_checks calls (length replies))
+      → after ≡ written 0 ((told r).detail ∷ 0 ∷ 0 ∷ 0 ∷ 0 ∷ 0 ∷ 0 ∷ 0 ∷ []) before → Replayed f ii h calls rows replies starts free before (told r).number rows replies starts free after
   unfolding replay_file
-  calls_refused n d e w =
-      replayed_refused n d (ap (λ (o : Option Refusal). settled o (setup_as f ii h)) (refusal_early (call_checks calls (length replies)) (open_checks f ii h (length rows)) _ e)) w
+  calls_refused r e w =
+      replayed_refused r (ap (λ (o : Option Refusal). settled o (setup_as f ii h)) (refusal_early (call_checks calls (length replies)) (open_checks f ii h (length rows)) _ (sym e))) w
 
   module _ (fit : first_refusal (call_checks calls (length replies)) ≡ none) where
     -- where nothing is against the calls, opening decides
@@ -143,13 +99,13 @@ module _ (f : List ℕ) (ii h : ℕ) (calls rows replies starts free before afte
     as_opened = ap (λ (o : Option Refusal). settled o (setup_as f ii h)) (refusal_append (call_checks calls (length replies)) (open_checks f ii h (length rows)) fit)
 
     -- by opening
-    pub opening_refused : {n d : ℕ} {s : Session} {rows' : List ℕ} → Opened f ii h rows s (checked.Refused n d) rows'
-        → after ≡ written 0 (d ∷ 0 ∷ 0 ∷ 0 ∷ 0 ∷ 0 ∷ 0 ∷ 0 ∷ []) before → Replayed f ii h calls rows replies starts free before n rows' replies starts free after
-    opening_refused {n} {d} o w =
-        rw (o.rows_are ∙ ap (λ (a : Answer Setup). open_rows a rows) (sym o.says)) (replayed_refused n d (as_opened ∙ sym o.says) w)
+    pub opening_refused : {r : code.Refusal} {rows' : List ℕ} → Opened f ii h rows (Err r) rows'
+        → after ≡ written 0 ((told r).detail ∷ 0 ∷ 0 ∷ 0 ∷ 0 ∷ 0 ∷ 0 ∷ 0 ∷ []) before → Replayed f ii h calls rows replies starts free before (told r).number rows' replies starts free after
+    opening_refused {r} o w =
+        rw (o.rows_are ∙ ap (λ (a : Answer Setup). open_rows a rows) (sym o.says)) (replayed_refused r (as_opened ∙ sym o.says) w)
 
     -- all calls made
-    pub all_made : {s : Session} {rows₁ rows' replies' starts' free' : List ℕ} {marks : ℕ} → Opened f ii h rows s checked.Fine rows₁
+    pub all_made : {s : Session} {rows₁ rows' replies' starts' free' : List ℕ} {marks : ℕ} → Opened f ii h rows (Ok s) rows₁
         → Made (calls_of calls) s rows₁ replies marks rows' replies' starts' free' → after ≡ written 0 (0 ∷ call_count calls ∷ marks ∷ 0 ∷ 0 ∷ 0 ∷ 0 ∷ 0 ∷ []) before
         → Replayed f ii h calls rows replies starts free before 0 rows' replies' starts' free' after
     all_made o m w =

@@ -1,18 +1,22 @@
 -- A list of session calls as numbers, and what replaying it on a session of its own comes to. Assumes nothing.
-use Rattle.std.specs.Prelude.{◌≡◌, ℕ, ◌+◌, ◌*◌, ◌/◌, ltb, length, get_or, drop}
+use Rattle.std.specs.Prelude.{◌≡◌, cond, ℕ, ◌+◌, ◌*◌, ◌/◌, eqb, ltb, length, get_or, drop}
 use mathlib.Core.List.{List, [], ◌∷◌, ◌++◌, map, flat_map}
 use Rattle.std.proofs.Math.Option.{Option, none, some}
 use Rattle.model.specs.Lists.{up_from, written}
 use Rattle.model.specs.Refusals.{Check, check, outside, Answer, answered, refused, settle}
 use Rattle.model.specs.Table.{free_rows}
-use Rattle.model.specs.Session.{Setup, Starts, Call, Reply, done, displaced, numbered, state_table, open_checks, start, after, replies}
+use Rattle.model.specs.Session.{Setup, Starts, Call, place, force, remove, checkpoint, release, rollback, Reply, done, displaced, numbered, state_table, open_checks, start, after, replies}
 use Rattle.board.specs.Board.{setup_as}
-use Rattle.replay.specs.Parts.{call_of}
 use Rattle.session.specs.Undo.{Run}
 use Rattle.session.specs.declared.Session.{Session}
 use Rattle.replay.specs.Words.{Gives}
 
 -- ---- the calls
+
+-- the call of a kind, 1 to 6, with two numbers (another number is taken for 5: who lets any number in refuses it before)
+unfoldable pub call_of : (kind a b : ℕ) → Call
+call_of k a b =
+    cond (eqb k 1) (place a b) (cond (eqb k 2) (force a b) (cond (eqb k 3) (remove a) (cond (eqb k 4) checkpoint (cond (eqb k 6) (rollback a) release))))
 
 -- how many calls the numbers make, three a call; what is left over makes none
 abbrev pub call_count : List ℕ → ℕ

@@ -2,98 +2,83 @@
 // Internal: what `mw_session` is made of.
 #![tactic(auto)]
 
-mod parts;
-
 ghost use Rattle.std.specs.Prelude.{◌≡◌, ◌+◌, ◌*◌, ◌-◌, ◌≤◌, ◌<◌, length};
-ghost use mathlib.Core.List.{[], ◌∷◌, flat_map};
+ghost use mathlib.Core.List.{flat_map};
 ghost use Rattle.model.specs.Lists.{up_from, written};
 ghost use Rattle.model.specs.Refusals.{first_refusal};
-ghost use Rattle.refusals.specs.Checked.{refusal_of};
+ghost use Rattle.refusals.specs.Told.{refusal_of};
 ghost use Rattle.board.specs.Moves.{reply_of};
 ghost use Rattle.session.specs.View.{Valid};
-ghost use Rattle.replay.specs.Replay.{kind_check, call_checks, first_calls, reply_words, Made};
+ghost use Rattle.replay.specs.Replay.{call_of, kind_check, call_checks, first_calls, reply_words, Made};
+ghost use Rattle.session.specs.Call.{call_is};
 
-use board::Reply;
-use refusals::Checked;
-use session::{Kept, Session};
+use session::{Call, Refusal, Reply, Session};
+
+// The call of a kind with its two numbers. (Whoever lets any number in refuses those that are no kind before.)
+#[tactic(auto, unfolding(crate::specs::Replay::call_of))]
+fn call_of(kind: u64, a: usize, b: usize) -> Call
+    ensures { call_is result ≡ call_of kind a b }
+{
+    match kind {
+        1 => Call::Place { op: a, start: b },
+        2 => Call::Force { op: a, start: b },
+        3 => Call::Remove { op: a },
+        4 => Call::Checkpoint,
+        6 => Call::Rollback { checkpoint: a },
+        _ => Call::Release,
+    }
+}
 
 // The first of n calls that has no kind that there is.
-fn kinds(calls: &[u64], n: usize) -> Checked
+#[tactic(auto, using(crate::proofs::CallChecks::rows), unfolding(model::specs::Refusals::first_refusal))]
+fn kinds(calls: &[u64], n: usize) -> Result<(), Refusal>
     requires { 3 * n ≤ length calls.now }
     ensures { refusal_of result ≡ first_refusal (flat_map (kind_check calls.now) (up_from 0 n)) }
 {
-    let mut i = 0;
-    while i < n {
+    for i in 0..n {
         let kind = calls[3 * i];
-        if kind < 1 {
-            return Checked::Refused(255, i);
+        if kind < 1 || 6 < kind {
+            return Err(Refusal::Call(i));
         }
-        if 6 < kind {
-            return Checked::Refused(255, i);
-        }
-        i = i + 1;
     }
-    Checked::Fine
+    Ok(())
 }
 
 // What is wrong with the calls, or with a list of `room` numbers for their answers.
-pub fn unfit(calls: &[u64], room: usize) -> Checked
+#[tactic(auto, using(crate::proofs::CallChecks::parts), unfolding(model::specs::Refusals::first_refusal, crate::specs::Replay::call_checks))]
+pub fn unfit(calls: &[u64], room: usize) -> Result<(), Refusal>
     ensures { refusal_of result ≡ first_refusal (call_checks calls.now room) }
 {
     let n = calls.len() / 3;
-    let checked = kinds(calls, n);
-    let Checked::Fine = checked else {
-        return checked;
-    };
+    kinds(calls, n)?;
     if 3 * n < calls.len() {
-        return Checked::Refused(255, n);
+        return Err(Refusal::Call(n));
     }
     if room < 2 * n {
-        return Checked::Refused(254, room);
+        return Err(Refusal::Replies(room));
     }
-    Checked::Fine
+    Ok(())
 }
 
-// Two numbers, from place i on.
-fn write_two(replies: &mut [u64], i: usize, first: u64, second: u64)
+// A call's answer in two numbers, from place i on.
+#[tactic(auto, unfolding(model::specs::Lists::written))]
+fn write_reply(replies: &mut [u64], i: usize, reply: Result<Reply, Refusal>)
     requires { i + 2 ≤ length replies.old }
-    ensures { replies.new ≡ written i (first ∷ second ∷ []) replies.old }
+    ensures { replies.new ≡ written i (reply_words (reply_of reply)) replies.old }
 {
+    let (first, second) = match reply {
+        Ok(Reply::Done) => (0, 0),
+        Ok(Reply::Displaced(mask)) => (0, mask),
+        Ok(Reply::Numbered(m)) => (0, m as u64),
+        Err(refusal) => (refusal.number() as u64, refusal.detail() as u64),
+    };
     replies[i] = first;
     replies[i + 1] = second;
 }
 
-// A call's answer, from place i on.
-fn write_reply(replies: &mut [u64], i: usize, r: Reply)
-    requires { i + 2 ≤ length replies.old }
-    ensures { replies.new ≡ written i (reply_words (reply_of r)) replies.old }
-{
-    match r {
-        Reply::Done => write_two(replies, i, 0, 0),
-        Reply::Displaced(mask) => write_two(replies, i, 0, mask),
-        Reply::Numbered(m) => write_two(replies, i, 0, m as u64),
-        Reply::Refused(number, detail) => write_two(replies, i, number as u64, detail as u64),
-    }
-}
-
-// Where the starts of checkpoint m stand, if it is open.
-fn place_of(m: usize, marks: usize) -> usize
-    requires { marks ≤ 16 }
-    ensures { (result < 16) × (1 ≤ m → m ≤ marks → result ≡ m - 1) }
-{
-    if m == 0 {
-        return 0;
-    }
-    if marks < m {
-        return 0;
-    }
-    m - 1
-}
-
-// The first n calls, one after the other, with their answers; the checkpoints that are open then. The calls are made on starts and numbers in the lent arrays, whatever they held; what a checkpoint
-// keeps is taken out for a rollback alone.
+// The first n calls, one after the other, with their answers; the checkpoints that are open then. What the calls leave is in the lent arrays, whatever they held.
 pub fn run(
-    s: Session,
+    session: &mut Session,
     rows: &mut [u64],
     calls: &[u64],
     n: usize,
@@ -101,50 +86,18 @@ pub fn run(
     starts: &mut [u16; 64],
     free: &mut [u16; 24],
 ) -> usize
-    requires { Valid s rows.old × (3 * n ≤ length calls.now) × (2 * n ≤ length replies.old) }
-    ensures { Made (first_calls calls.now n) s rows.old replies.old result rows.new replies.new starts.new free.new }
+    requires { Valid session.old rows.old × (3 * n ≤ length calls.now) × (2 * n ≤ length replies.old) }
+    ensures { Made (first_calls calls.now n) session.old rows.old replies.old result rows.new replies.new starts.new free.new }
 {
-    let mut t = s;
-    *starts = t.starts;
-    *free = t.free;
-    let mut wanted = t.saved[0];
-    let mut i = 0;
-    while i < n {
-        let kind = calls[3 * i];
-        let a = calls[3 * i + 1] as usize;
-        let b = calls[3 * i + 2] as usize;
-        let length = t.length;
-        let interval = t.interval;
-        let horizon = t.horizon;
-        let marks = t.marks;
-        if kind == 6 {
-            wanted = t.saved[place_of(a, marks)];
-        }
-        let turn = parts::make(
-            &t.file,
-            length,
-            interval,
-            horizon,
-            marks,
-            kind,
-            a,
-            b,
-            &wanted.starts,
-            &wanted.free,
-            starts,
-            rows,
-            free,
+    for i in 0..n {
+        let call = call_of(
+            calls[3 * i],
+            calls[3 * i + 1] as usize,
+            calls[3 * i + 2] as usize,
         );
-        if marks < turn.marks {
-            t.saved[marks] = Kept {
-                starts: *starts,
-                free: *free,
-            };
-        }
-        t.marks = turn.marks;
-        let reply = turn.reply;
-        write_reply(replies, 2 * i, reply);
-        i = i + 1;
+        write_reply(replies, 2 * i, session.make(rows, call));
     }
-    t.marks
+    *starts = session.starts;
+    *free = session.free;
+    session.marks
 }

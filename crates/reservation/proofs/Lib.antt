@@ -1,4 +1,5 @@
 -- Hand-written laws of the crate that belong to no one function.
+pub mod Ranges
 pub mod Bits
 pub mod RowUpdates
 pub mod UseNumbers

@@ -6,7 +6,7 @@ use native.Mathlib.Nat.{add-zero}
 use native.Mathlib.Omega.{arith}
 use lib.Dec.{eqb, ltb}
 use lib.ListN.{length, get_or}
-use borrow.Author.Tests.{le-leb, eq-eqb, ne_eqb, eqb-true, lt-ltb, ltb-true, le-ltb}
+use borrow.Author.Tests.{le-leb, eq-eqb, eqb-true, lt-ltb, ltb-true}
 use Rattle.model.specs.Lists.{up_from, any_of}
 use Rattle.model.specs.Table.{count_of}
 use Rattle.model.specs.Loop.{Use, Op, Loop, no_use, size, op_at, use_at, all_uses, first_use_of, OpOk}
@@ -45,23 +45,9 @@ module _ (ii : ℕ) (pos : 1 ≤ ii) (p : Op) (ok : OpOk p) (s : ℕ) where
       rw (eq-eqb u.slot slot h.slot)
       (lt-ltb (cycle_of ii (s + u.offset) row) u.duration (omega (arith, h.going, cycle_first ii (s + u.offset) row i pos h.row)))
 
--- of a use v that is read as u, of slot x, offset y and duration z
-module _ (ii s slot row : ℕ) (u v : Use) (same : u ≡ v) (x : ℕ) (a : x ≡ u.slot) where
-  -- where it is on another slot
-  pub pass_away : (x ≡ slot → ⊥) → use_pass ii s slot row v ≡ false
-  pass_away n = ap (use_pass ii s slot row) (sym same) ∙ rw (ne_eqb u.slot slot (λ q. n (a ∙ q)))
-
-  -- where it is over before the row comes
-  pub pass_over : (y z : ℕ) → y ≡ u.offset → z ≡ u.duration → x ≡ slot → z ≤ cycle_of ii (s + y) row → use_pass ii s slot row v ≡ false
-  pass_over y z b d e h =
-      let g : u.duration ≤ cycle_of ii (s + u.offset) row = rw (← b, ← d) h in
-      ap (use_pass ii s slot row) (sym same) ∙ rw (eq-eqb u.slot slot (sym a ∙ e), le-ltb (cycle_of ii (s + u.offset) row) u.duration g)
-
-  -- where it is going on when the row comes
-  pub pass_on : (y z : ℕ) → y ≡ u.offset → z ≡ u.duration → x ≡ slot → cycle_of ii (s + y) row < z → use_pass ii s slot row v ≡ true
-  pass_on y z b d e h =
-      let g : cycle_of ii (s + u.offset) row < u.duration = rw (← b, ← d) h in
-      ap (use_pass ii s slot row) (sym same) ∙ rw (eq-eqb u.slot slot (sym a ∙ e), lt-ltb (cycle_of ii (s + u.offset) row) u.duration g)
+-- a use of the slot that is going on when the row comes passes
+pub pass_on : (ii s slot row : ℕ) (u : Use) → u.slot ≡ slot → cycle_of ii (s + u.offset) row < u.duration → use_pass ii s slot row u ≡ true
+pass_on ii s slot row u e h = rw (eq-eqb u.slot slot e, lt-ltb (cycle_of ii (s + u.offset) row) u.duration h)
 
 module _ (ii : ℕ) (pos : 1 ≤ ii) (p : Op) (ok : OpOk p) (s slot row : ℕ) (l : row < ii) where
   -- a use that passes is enough
@@ -78,7 +64,7 @@ module _ (ii : ℕ) (pos : 1 ≤ ii) (p : Op) (ok : OpOk p) (s slot row : ℕ) (
       away c =
           let w = cell_hit ii p s ok slot row c in
           let z : false ≡ true = sym (h w.0 w.2.inside) ∙ hit_test ii pos p ok s slot row w.0 w.1 w.2 in
-          let y : ◌≡◌ {A = ℕ} 0 1 = cc in omega arith
+          cc
 
 -- ---- two operations
 

@@ -11,7 +11,7 @@ use Rattle.model.specs.Loop.{Use, Op, use_at, OpOk}
 use Rattle.model.specs.Table.{digit_of}
 use Rattle.model.proofs.Modular.{wrap_ne}
 use Rattle.model.proofs.Conflicts.{slots_rise}
-use Rattle.reservation.specs.Rows.{changed, over_use, over_uses, DigitIs, UseIn, UsesIn}
+use Rattle.reservation.specs.Rows.{changed, over_use, over_uses, Leaves, DigitIs, UseIn, UsesIn}
 
 -- ---- one use
 
@@ -79,10 +79,6 @@ unfolding over_uses
 uses_rest g ii s us zero rows p = refl
 uses_rest g ii s us (suc n) rows p =
     over_rest _ ii _ _ (over_uses g ii s us n rows) p ∙ uses_rest g ii s us n rows p
-
--- g leaves the digits of other slots where that of its slot is d
-abbrev pub Leaves : (base d : ℕ) → (ℕ → ℕ → ℕ) → Type 0
-Leaves base d g = (s t x : ℕ) → 1 ≤ s → 1 ≤ t → (s ≡ t → ⊥) → digit_of base x t ≡ d → digit_of base (g t x) s ≡ digit_of base x s
 
 -- so after the first j uses each later one lies in the table still: the slots differ
 pub uses_turn : {base : ℕ} (g : ℕ → ℕ → ℕ) (d : ℕ) (rows : List ℕ) (ii s : ℕ) (p : Op) → Leaves base d g → OpOk p → UsesIn base d rows ii s p.uses

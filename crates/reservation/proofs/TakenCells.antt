@@ -11,15 +11,17 @@ use lib.Dec.{eqb, leb}
 use lib.ListN.{length, get_or, take}
 use borrow.Author.Tests.{le-leb, lt-leb, lt-ltb, le-ltb, eq-eqb}
 use Rattle.model.specs.Lists.{first, max_of}
-use Rattle.model.specs.Loop.{Op, Use, no_use, OpOk}
+use Rattle.model.specs.Loop.{Op, Use, no_use, OpOk, size, op_at}
+use Rattle.model.specs.File.{loop_of, Accepted}
 use Rattle.model.specs.Legality.{covers}
 use Rattle.model.specs.Table.{digit_of}
 use Rattle.model.specs.Counts.{Capacity, Usage, taken_at, first_taken}
 use Rattle.reservation.specs.Place.{met_by, met_in, cycles_of, cycle_is, row_at, met_at, first_met, place_of, place_is, place_in_cycle, InRange}
 use Rattle.reservation.specs.declared.Place.{Place}
-use Rattle.reservation.specs.declared.Place.TheVariants.{Free, Taken}
-use Rattle.reservation.specs.declared.test.Cycle.{Cycle}
+use Rattle.std.specs.Prelude.{None, Some}
+use Rattle.std.specs.Prelude as code
 use Rattle.reservation.specs.declared.test.Cycle.TheVariants as cycle
+use Rattle.model.proofs.File.{accepted_ok}
 use Rattle.model.proofs.Lists.{at_any, first_none}
 use Rattle.model.proofs.Firsts.{first_not, grid_not, grid_at, none_grid}
 use Rattle.model.proofs.Room.{place_small}
@@ -63,10 +65,14 @@ cycles_over base ii row k [] h = refl
 cycles_over base ii row k (u ∷ us) h = rw (use_over base ii row k u (omega arith)) (cycles_over base ii row k us (omega arith))
 
 -- no use ends after cycle b, so they cover at most b cycles
-pub cycles_most : (us : List Use) (b : ℕ) → ((j : ℕ) → j < length us → (get_or us j no_use).offset + (get_or us j no_use).duration ≤ b) → cycles_of us ≤ b
+cycles_most : (us : List Use) (b : ℕ) → ((j : ℕ) → j < length us → (get_or us j no_use).offset + (get_or us j no_use).duration ≤ b) → cycles_of us ≤ b
 unfolding max_of
 cycles_most [] b h = omega arith
 cycles_most (u ∷ us) b h = omega (arith, h 0 (omega arith), cycles_most us b (λ j l. h (suc j) (omega arith)))
+
+-- those of an operation cover at most 16
+pub cycles_few : (f : List ℕ) (o : ℕ) → Accepted f → o < size (loop_of f) → cycles_of (op_at (loop_of f) o).uses ≤ 16
+cycles_few f o a l = cycles_most (op_at (loop_of f) o).uses 16 (λ j m. (((accepted_ok f a).op_ok o l).each j m).ends)
 
 -- the cycles that the uses to j cover, with use j
 pub cycles_more : (us : List Use) (j : ℕ) → j < length us → cycles_of (take (suc j) us) ≡ max (cycles_of (take j us)) ((get_or us j no_use).offset + (get_or us j no_use).duration)
@@ -78,9 +84,9 @@ cycles_more (u ∷ us) (suc j) l = omega (arith, cycles_more us j (omega arith))
 -- ---- what the test of one cycle says
 
 -- it finds nothing: nothing is taken, and the number said is m
-pub cycle_free : (r : Cycle) (n m : ℕ) (o : Option Use) → r ≡ cycle_is o m → r ≡ cycle.Free n → (o ≡ none) × (n ≡ m)
-cycle_free r n m none e q = (refl, cc)
-cycle_free r n m (some u) e q = let z : ◌≡◌ {A = ℕ} 0 1 = cc in absurd (omega arith)
+pub cycle_free : (n m : ℕ) (o : Option Use) → cycle.Free n ≡ cycle_is o m → (o ≡ none) × (n ≡ m)
+cycle_free n m none e = (refl, cc)
+cycle_free n m (some u) e = cc
 
 module _ (base ii : ℕ) (rows : List ℕ) (s : ℕ) (us : List Use) where
   -- nothing is met, said of each cycle and each use
@@ -94,41 +100,25 @@ module _ (base ii : ℕ) (rows : List ℕ) (s : ℕ) (us : List Use) where
   each_met h = grid_not (met_at base ii rows s) us 16 (λ k l. first_none (met_at base ii rows s k) us (at_any (met_at base ii rows s k) us no_use (λ j m. h k j l m)))
 
   -- nothing in those below k, and the uses cover no others
-  pub place_free : (k : ℕ) → ((j : ℕ) → j < k → met_in base ii (row_at ii rows s j) j us ≡ none) → cycles_of us ≤ k → place_is (first_met base ii rows s us) ≡ none
+  pub place_free : (k : ℕ) → ((j : ℕ) → j < k → met_in base ii (row_at ii rows s j) j us ≡ none) → cycles_of us ≤ k → none ≡ place_is (first_met base ii rows s us)
   unfolding met_in first_met
-  place_free k h m = ap place_is (grid_not (met_at base ii rows s) us 16 (λ j l. pick j (dec_lt j k)))
+  place_free k h m = sym (ap place_is (grid_not (met_at base ii rows s) us 16 (λ j l. pick j (dec_lt j k))))
     where
       pick : (j : ℕ) → Dec (j < k) → met_in base ii (row_at ii rows s j) j us ≡ none
       pick j (yes l) = h j l
       pick j (no n) = cycles_over base ii (row_at ii rows s j) j us (omega arith)
 
   -- nothing in those below k, and in k something in slot t
-  pub place_taken : (k t m : ℕ) (r : Cycle) → k < 16 → ((j : ℕ) → j < k → met_in base ii (row_at ii rows s j) j us ≡ none)
-      → r ≡ cycle_is (met_in base ii (row_at ii rows s k) k us) m → r ≡ cycle.Taken t → place_is (first_met base ii rows s us) ≡ some (k, t)
+  pub place_taken : (k t m : ℕ) → k < 16 → ((j : ℕ) → j < k → met_in base ii (row_at ii rows s j) j us ≡ none)
+      → cycle.Taken t ≡ cycle_is (met_in base ii (row_at ii rows s k) k us) m → some (k, t) ≡ place_is (first_met base ii rows s us)
   unfolding met_in first_met
-  place_taken k t m r l h e f = pick (first (met_at base ii rows s k) us) refl e
+  place_taken k t m l h e = pick (first (met_at base ii rows s k) us) refl e
     where
-      pick : (o : Option Use) → first (met_at base ii rows s k) us ≡ o → r ≡ cycle_is o m → place_is (first_met base ii rows s us) ≡ some (k, t)
-      pick none q g = let z : ◌≡◌ {A = ℕ} 0 1 = cc in absurd (omega arith)
-      pick (some u) q g = let v : u.slot ≡ t = cc in ap place_is (grid_at (met_at base ii rows s) us 16 k u l h q) ∙ ap (λ (x : ℕ). some (k, x)) v
-
--- ---- what the conflict test says
-
--- it finds nothing: nothing is taken
-pub free_place : (r : Place) (o : Option (ℕ × Use)) → place_of r ≡ place_is o → r ≡ Free → o ≡ none
-free_place r none e q = refl
-free_place r (some p) e q = let z : ◌≡◌ {A = ℕ} 0 1 = cc in absurd (omega arith)
-
--- it finds a place: something is
-pub taken_place : (r : Place) (k t : ℕ) (o : Option (ℕ × Use)) → place_of r ≡ place_is o → r ≡ Taken k t → o ≡ none → ⊥
-taken_place r k t o e q z = let y : ◌≡◌ {A = ℕ} 0 1 = cc in omega arith
+      pick : (o : Option Use) → first (met_at base ii rows s k) us ≡ o → cycle.Taken t ≡ cycle_is o m → some (k, t) ≡ place_is (first_met base ii rows s us)
+      pick none q g = cc
+      pick (some u) q g = let v : t ≡ u.slot = cc in ap (λ (x : ℕ). some (k, x)) v ∙ sym (ap place_is (grid_at (met_at base ii rows s) us 16 k u l h q))
 
 -- ---- what is said of the cycles of a place of the model
-
--- nothing is found in a cycle: nothing is taken in it
-pub free_at : (r : Place) (k : ℕ) (o : Option Use) → place_of r ≡ place_in_cycle k o → r ≡ Free → o ≡ none
-free_at r k none e q = refl
-free_at r k (some u) e q = let z : ◌≡◌ {A = ℕ} 0 1 = cc in absurd (omega arith)
 
 module _ (cap : Capacity) (u : Usage) (own : Bool) (ii : ℕ) (p : Op) (t : ℕ) where
   -- what is taken first in cycle k
@@ -136,25 +126,25 @@ module _ (cap : Capacity) (u : Usage) (own : Bool) (ii : ℕ) (p : Op) (t : ℕ)
   taken_in k = first (taken_at cap u own ii t k) p.uses
 
   -- nothing in any cycle
-  pub cycles_none : ((k : ℕ) → k < 16 → taken_in k ≡ none) → place_is (first_taken cap u own ii p t) ≡ none
+  pub cycles_none : ((k : ℕ) → k < 16 → taken_in k ≡ none) → none ≡ place_is (first_taken cap u own ii p t)
   unfolding first_taken
-  cycles_none h = ap place_is (grid_not (taken_at cap u own ii t) p.uses 16 h)
+  cycles_none h = sym (ap place_is (grid_not (taken_at cap u own ii t) p.uses 16 h))
 
-  -- nothing in those below k, and in k the place that r says
-  pub cycles_found : (k : ℕ) (r : Place) (x y : ℕ) → k < 16 → ((j : ℕ) → j < k → taken_in j ≡ none) → place_of r ≡ place_in_cycle k (taken_in k) → r ≡ Taken x y → place_of r ≡ place_is (first_taken cap u own ii p t)
+  -- nothing in those below k, and in k the place x
+  pub cycles_found : (k : ℕ) (x : ℕ × ℕ) → k < 16 → ((j : ℕ) → j < k → taken_in j ≡ none) → some x ≡ place_in_cycle k (taken_in k) → some x ≡ place_is (first_taken cap u own ii p t)
   unfolding first_taken
-  cycles_found k r x y l h e q = pick (taken_in k) refl e
+  cycles_found k x l h e = pick (taken_in k) refl e
     where
-      pick : (o : Option Use) → taken_in k ≡ o → place_of r ≡ place_in_cycle k o → place_of r ≡ place_is (first_taken cap u own ii p t)
-      pick none f g = let z : ◌≡◌ {A = ℕ} 0 1 = cc in absurd (omega arith)
+      pick : (o : Option Use) → taken_in k ≡ o → some x ≡ place_in_cycle k o → some x ≡ place_is (first_taken cap u own ii p t)
+      pick none f g = cc
       pick (some v) f g = g ∙ sym (ap place_is (grid_at (taken_at cap u own ii t) p.uses 16 k v l h f))
 
   -- what is said of a place that is found is in range
-  pub found_range : OpOk p → (r : Place) → place_of r ≡ place_is (first_taken cap u own ii p t) → InRange r
+  pub found_range : OpOk p → (r : code.Option Place) → place_of r ≡ place_is (first_taken cap u own ii p t) → InRange r
   found_range ok r e = record { small = λ k s q. go k s (first_taken cap u own ii p t) refl (sym e ∙ q) }
     where
       go : (k s : ℕ) (o : Option (ℕ × Use)) → first_taken cap u own ii p t ≡ o → place_is o ≡ some (k, s) → (k < 16) × (s ≤ 24)
-      go k s none f g = let z : ◌≡◌ {A = ℕ} 0 1 = cc in absurd (omega arith)
+      go k s none f g = cc
       go k s (some (c, v)) f g =
           let same : ◌≡◌ {A = ℕ × ℕ} (c, v.slot) (k, s) = cc in
           subst (λ (x : ℕ × ℕ). (x.0 < 16) × (x.1 ≤ 24)) same (place_small cap u own ii p t c v ok f)

@@ -1,5 +1,6 @@
 -- The first place in which an operation meets a taken cell: cycle by cycle, and in a cycle by slot. Assumes nothing.
-use Rattle.std.specs.Prelude.{◌≡◌, Bool, true, false, ◌&&◌, ◌||◌, ℕ, ◌+◌, ◌*◌, ◌%◌, ◌≤◌, ◌<◌, eqb, leb, get_or}
+use Rattle.std.specs.Prelude.{◌≡◌, Bool, true, false, ◌&&◌, ◌||◌, ℕ, ◌+◌, ◌*◌, ◌%◌, ◌≤◌, ◌<◌, eqb, leb, get_or, None, Some}
+use Rattle.std.specs.Prelude as code
 use mathlib.Core.List.{List, map, flat_map}
 use Rattle.std.proofs.Math.Option.{Option, none, some}
 use Rattle.model.specs.Lists.{up_from, first, max_of}
@@ -8,7 +9,6 @@ use Rattle.model.specs.Legality.{covers}
 use Rattle.model.specs.Table.{row_base, digit_of}
 use Rattle.model.specs.Counts.{own_clash}
 use Rattle.reservation.specs.declared.Place.{Place}
-use Rattle.reservation.specs.declared.Place.TheVariants.{Free, Taken}
 use Rattle.reservation.specs.declared.test.Cycle.{Cycle}
 use Rattle.reservation.specs.declared.test.Cycle.TheVariants as cycle
 
@@ -42,9 +42,9 @@ unfoldable pub first_met : (base ii : ℕ) → List ℕ → ℕ → List Use →
 first_met base ii rows s us = first (λ p. met_at base ii rows s p.0 p.1) (flat_map (λ k. map (λ u. (k, u)) us) (up_from 0 16))
 
 -- what the conflict test says: the cycle, and the slot
-abbrev pub place_of : Place → Option (ℕ × ℕ)
-place_of Free = none
-place_of (Taken k s) = some (k, s)
+abbrev pub place_of : code.Option Place → Option (ℕ × ℕ)
+place_of None = none
+place_of (Some p) = some (p.cycle, p.slot)
 
 -- of the first taken place
 abbrev pub place_is : Option (ℕ × Use) → Option (ℕ × ℕ)
@@ -57,16 +57,16 @@ place_in_cycle k none = none
 place_in_cycle k (some u) = some (k, u.slot)
 
 -- a place whose number can be made: a cycle below 16, and a slot up to 24
-pub record InRange (r : Place) : Type 0 where
+pub record InRange (r : code.Option Place) : Type 0 where
   pub small : (k s : ℕ) → place_of r ≡ some (k, s) → (k < 16) × (s ≤ 24)
 
 -- its number: 32 times the cycle, and the slot; 0 where there is no place
-abbrev pub number_in : Place → ℕ
-number_in Free = 0
-number_in (Taken k s) = 32 * k + s
+abbrev pub number_in : code.Option Place → ℕ
+number_in None = 0
+number_in (Some p) = 32 * p.cycle + p.slot
 
 -- r says the first place in which operation p, wherever it is started, meets a cell that it covers itself in an earlier cycle
-abbrev pub OwnPlace : ℕ → Op → Place → Type 0
+abbrev pub OwnPlace : ℕ → Op → code.Option Place → Type 0
 OwnPlace ii p r = (s : ℕ) → place_of r ≡ place_is (own_clash ii p s)
 
 -- the rows are free for operation p, started at s: nothing is taken

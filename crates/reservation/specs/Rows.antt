@@ -26,7 +26,11 @@ with_one base slot x = x + base ^ (slot - 1)
 abbrev pub less_one : (base slot x : ℕ) → ℕ
 less_one base slot x = x - base ^ (slot - 1)
 
--- what the leaves ask: the cell lies in the rows, and its digit is d
+-- g leaves the digits of other slots where that of its slot is d
+abbrev pub Leaves : (base d : ℕ) → (ℕ → ℕ → ℕ) → Type 0
+Leaves base d g = (s t x : ℕ) → 1 ≤ s → 1 ≤ t → (s ≡ t → ⊥) → digit_of base x t ≡ d → digit_of base (g t x) s ≡ digit_of base x s
+
+-- what a change of a bit asks: the cell lies in the rows, and its digit is d
 pub record DigitIs (base d : ℕ) (rows : List ℕ) (r s : ℕ) : Type 0 where
   pub inside : r < length rows
   pub low : 1 ≤ s

@@ -6,9 +6,5 @@ pub fn clear_rows(rows: &mut [u64], n: usize)
     requires { n ≤ length rows.old }
     ensures { rows.new ≡ replicate n 0 ++ drop n rows.old }
 {
-    let mut i = 0;
-    while i < n {
-        rows[i] = 0;
-        i = i + 1;
-    }
+    rows[..n].fill(0);
 }

@@ -6,9 +6,5 @@ pub fn write_list(list: &mut [u16], starts: &[u16], n: usize)
     requires { (n ≤ length list.old) × (n ≤ length starts.now) }
     ensures { list.new ≡ take n starts.now ++ drop n list.old }
 {
-    let mut i = 0;
-    while i < n {
-        list[i] = starts[i];
-        i = i + 1;
-    }
+    list[..n].copy_from_slice(&starts[..n]);
 }

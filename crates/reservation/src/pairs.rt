@@ -25,17 +25,13 @@ pub fn covers(
     ensures { result ≡ covers_cell interval (op_at (loop_of file.now) op) start slot_ row }
 {
     let first = first_use(file, op);
-    let n = use_count(file, op);
-    let mut j = 0;
-    while j < n {
-        let u = first + j;
+    for u in first..first + use_count(file, op) {
         if slot(file, u) == slot_ {
             let begin = (start + offset(file, u)) % interval;
             if (row + interval - begin) % interval < duration(file, u) {
                 return true;
             }
         }
-        j = j + 1;
     }
     false
 }
@@ -47,13 +43,10 @@ fn use_meets(file: &[u8], u: usize, from: usize, b: usize, to: usize, interval: 
 {
     let begin = from + offset(file, u);
     let on = slot(file, u);
-    let n = duration(file, u);
-    let mut k = 0;
-    while k < n {
+    for k in 0..duration(file, u) {
         if covers(file, b, to, on, (begin + k) % interval, interval) {
             return true;
         }
-        k = k + 1;
     }
     false
 }
@@ -64,13 +57,10 @@ pub fn overlap(file: &[u8], a: usize, from: usize, b: usize, to: usize, interval
     ensures { result ≡ legality.conflict interval (op_at (loop_of file.now) a) from (op_at (loop_of file.now) b) to }
 {
     let first = first_use(file, a);
-    let n = use_count(file, a);
-    let mut j = 0;
-    while j < n {
-        if use_meets(file, first + j, from, b, to, interval) {
+    for u in first..first + use_count(file, a) {
+        if use_meets(file, u, from, b, to, interval) {
             return true;
         }
-        j = j + 1;
     }
     false
 }
@@ -88,10 +78,7 @@ fn shares(
     requires { Accepted file.now × (a < size (loop_of file.now)) × (u < length (all_uses (loop_of file.now))) × (from < 4096) × (to < 4096) × (k < 16) × (1 ≤ interval) × (interval ≤ 4096) }
     ensures { result ≡ taken_at single (used_by interval (op_at (loop_of file.now) a) from) false interval to k (get_or (all_uses (loop_of file.now)) u no_use) }
 {
-    if !covers_cycle(file, u, k) {
-        return false;
-    }
-    covers(file, a, from, slot(file, u), (to + k) % interval, interval)
+    covers_cycle(file, u, k) && covers(file, a, from, slot(file, u), (to + k) % interval, interval)
 }
 
 // The lowest slot in which operation b, started at `to`, meets operation a, started at `from`, in cycle k of b.
@@ -103,21 +90,20 @@ fn shared_in(
     to: usize,
     k: usize,
     interval: usize,
-) -> Place
+) -> Option<Place>
     requires { Accepted file.now × (a < size (loop_of file.now)) × (b < size (loop_of file.now)) × (from < 4096) × (to < 4096) × (k < 16) × (1 ≤ interval) × (interval ≤ 4096) }
     ensures { place_of result ≡ place_in_cycle k (first (taken_at single (used_by interval (op_at (loop_of file.now) a) from) false interval to k) (op_at (loop_of file.now) b).uses) }
 {
     let first = first_use(file, b);
-    let n = use_count(file, b);
-    let mut j = 0;
-    while j < n {
-        let u = first + j;
+    for u in first..first + use_count(file, b) {
         if shares(file, a, from, u, to, k, interval) {
-            return Place::Taken(k, slot(file, u));
+            return Some(Place {
+                cycle: k,
+                slot: slot(file, u),
+            });
         }
-        j = j + 1;
     }
-    Place::Free
+    None
 }
 
 // The first place in which operation b, started at `to`, meets operation a, started at `from`.
@@ -128,17 +114,14 @@ pub fn shared_place(
     b: usize,
     to: usize,
     interval: usize,
-) -> Place
+) -> Option<Place>
     requires { Accepted file.now × (a < size (loop_of file.now)) × (b < size (loop_of file.now)) × (from < 4096) × (to < 4096) × (1 ≤ interval) × (interval ≤ 4096) }
     ensures { place_of result ≡ place_is (pair_clash interval (op_at (loop_of file.now) a) from (op_at (loop_of file.now) b) to) }
 {
-    let mut k = 0;
-    while k < 16 {
-        let place = shared_in(file, a, from, b, to, k, interval);
-        let Place::Free = place else {
-            return place;
-        };
-        k = k + 1;
+    for k in 0..16 {
+        if let Some(place) = shared_in(file, a, from, b, to, k, interval) {
+            return Some(place);
+        }
     }
-    Place::Free
+    None
 }

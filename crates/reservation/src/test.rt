@@ -16,10 +16,7 @@ pub fn covers_cycle(file: &[u8], u: usize, k: usize) -> bool
     ensures { result ≡ covers k (get_or (all_uses (loop_of file.now)) u no_use) }
 {
     let from = offset(file, u);
-    if k < from {
-        return false;
-    }
-    k < from + duration(file, u)
+    from <= k && k < from + duration(file, u)
 }
 
 // Whether use u of all meets a taken cell in cycle k of its operation, which falls into the row given.
@@ -27,16 +24,12 @@ fn taken(file: &[u8], u: usize, k: usize, interval: usize, row: u64) -> bool
     requires { Accepted file.now × (u < length (all_uses (loop_of file.now))) × (k < 16) × (interval ≤ 4096) }
     ensures { result ≡ met_by row_base interval row k (get_or (all_uses (loop_of file.now)) u no_use) }
 {
-    if !covers_cycle(file, u, k) {
-        return false;
-    }
-    if offset(file, u) + interval <= k {
-        return true;
-    }
-    (row >> (slot(file, u) - 1)) & 1 == 1
+    covers_cycle(file, u, k)
+        && (offset(file, u) + interval <= k || (row >> (slot(file, u) - 1)) & 1 == 1)
 }
 
 // What the test of one cycle answers: the lowest slot in which the operation meets a taken cell; or that it meets none, and how many cycles the operation covers.
+// Both cases carry an answer and neither is an error, so this is no Option and no Result.
 #[derive(Drop)]
 enum Cycle {
     Taken(usize),
@@ -48,19 +41,13 @@ fn taken_in(file: &[u8], op: usize, first: usize, k: usize, interval: usize, row
     requires { Accepted file.now × (op < size (loop_of file.now)) × (k < 16) × (interval ≤ 4096) × (first ≡ first_use_of (loop_of file.now) op) }
     ensures { result ≡ cycle_is (met_in row_base interval row k (op_at (loop_of file.now) op).uses) (cycles_of (op_at (loop_of file.now) op).uses) }
 {
-    let n = use_count(file, op);
     let mut most = 0;
-    let mut j = 0;
-    while j < n {
-        let u = first + j;
+    for u in first..first + use_count(file, op) {
         if taken(file, u, k, interval, row) {
             return Cycle::Taken(slot(file, u));
         }
         let end = offset(file, u) + duration(file, u);
-        if most < end {
-            most = end;
-        }
-        j = j + 1;
+        most = most.max(end);
     }
     Cycle::Free(most)
 }
@@ -74,25 +61,21 @@ pub fn conflict(
     start: usize,
     interval: usize,
     rows: &[u64],
-) -> Place
+) -> Option<Place>
     requires { Accepted file.now × (op < size (loop_of file.now)) × (start ≤ 4096) × (1 ≤ interval) × (interval ≤ 4096) × (interval ≤ length rows.now) × (first ≡ first_use_of (loop_of file.now) op) }
     ensures { place_of result ≡ place_is (first_met row_base interval rows.now start (op_at (loop_of file.now) op).uses) }
 {
     let mut most = 1;
     let mut k = 0;
+    // The test says where to stop, so no range of cycles is known before.
     while k < most {
-        let c = taken_in(file, op, first, k, interval, rows[(start + k) % interval]);
-        match c {
-            Cycle::Taken(s) => {
-                return Place::Taken(k, s);
-            }
-            Cycle::Free(m) => {
-                most = m;
-            }
+        match taken_in(file, op, first, k, interval, rows[(start + k) % interval]) {
+            Cycle::Taken(slot) => return Some(Place { cycle: k, slot }),
+            Cycle::Free(cycles) => most = cycles,
         }
-        k = k + 1;
+        k += 1;
     }
-    Place::Free
+    None
 }
 
 // Whether the rows are free for the operation, started at `start`: it meets no taken cell, and not itself.
@@ -107,30 +90,23 @@ pub fn is_free(
     requires { Accepted file.now × (op < size (loop_of file.now)) × (start ≤ 4096) × (1 ≤ interval) × (interval ≤ 4096) × (interval ≤ length rows.now) × (first ≡ first_use_of (loop_of file.now) op) }
     ensures { FreeIs (op_at (loop_of file.now) op) interval start rows.now result }
 {
-    if let Place::Free = conflict(file, op, first, start, interval, rows) {
-        return true;
-    }
-    false
+    conflict(file, op, first, start, interval, rows).is_none()
 }
 
 // The first place in which the operation, wherever it is started, meets a cell that it covers itself in an earlier cycle. That is never before cycle `interval`, and mostly nothing is left to look at.
-pub fn own_place(file: &[u8], op: usize, first: usize, interval: usize) -> Place
+pub fn own_place(file: &[u8], op: usize, first: usize, interval: usize) -> Option<Place>
     requires { Accepted file.now × (op < size (loop_of file.now)) × (1 ≤ interval) × (interval ≤ 4096) × (first ≡ first_use_of (loop_of file.now) op) }
     ensures { OwnPlace interval (op_at (loop_of file.now) op) result }
 {
     let mut most = 16;
     let mut k = interval;
+    // As in `conflict`, with no row to read: one loop for both would take a closure for the row, and reads no plainer.
     while k < most {
-        let c = taken_in(file, op, first, k, interval, 0);
-        match c {
-            Cycle::Taken(s) => {
-                return Place::Taken(k, s);
-            }
-            Cycle::Free(m) => {
-                most = m;
-            }
+        match taken_in(file, op, first, k, interval, 0) {
+            Cycle::Taken(slot) => return Some(Place { cycle: k, slot }),
+            Cycle::Free(cycles) => most = cycles,
         }
-        k = k + 1;
+        k += 1;
     }
-    Place::Free
+    None
 }

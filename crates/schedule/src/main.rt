@@ -1,14 +1,14 @@
 // Reads a loop file from standard input to its end, and prints its schedule, or the refusal (document 01).
 #![tactic(auto)]
 
-use search::{Searched, Solution};
+use search::Solution;
 
 // `interval I resource R recurrence B stages S probes P`.
 fn summary(f: Solution) {
     let numbers = [f.interval, f.resource, f.recurrence, f.stages, f.probes];
-    console::form(
+    console::list(
         b"interval % resource % recurrence % stages % probes %\n",
-        numbers,
+        &numbers,
     );
 }
 
@@ -17,27 +17,16 @@ fn schedule(file: &[u8]) {
     let mut list = [0u16; 64];
     let mut rows = [0u64; 4096];
     match search::search(file, 4096, 256, 1000000, &mut list, &mut rows) {
-        Searched::Found(found) => {
+        Ok(found) => {
             summary(found);
             listing::print(file, found.interval, &list);
         }
-        Searched::Ended(number, detail, _) => {
-            listing::refused(number, detail);
-        }
-        Searched::Refused(number, detail) => {
-            listing::refused(number, detail);
-        }
+        Err(unsolved) => listing::refused(unsolved.number(), unsolved.detail()),
     }
 }
 
 // Keeps 1,691 bytes of the input, one more than the longest loop file has.
 fn main(rt: HostRuntime) {
     let mut bytes = [0u8; 1691];
-    let input = console::read_all(&mut rt.stdin(), &mut bytes);
-    let n = input.count;
-    if input.whole {
-        schedule(&bytes[..n]);
-    } else {
-        io::write_all(1, b"cannot read\n");
-    }
+    console::with_input(&mut rt.stdin(), &mut bytes, schedule);
 }

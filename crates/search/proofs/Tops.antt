@@ -9,20 +9,22 @@ use native.Mathlib.Omega.{arith}
 use borrow.Author.Tests.{lt-ltb, le-ltb}
 use lib.ListN.{length, take}
 use Rattle.model.specs.Lists.{up_from}
+use Rattle.std.specs.Prelude.{Ok, Err}
+use Rattle.model.specs.Refusals.{answered}
 use Rattle.model.specs.Loop.{Loop, size}
 use Rattle.model.specs.File.{loop_of}
 use Rattle.model.specs.Legality.{placed, legal}
 use Rattle.model.specs.Bounds.{Lower}
-use Rattle.model.specs.Search.{answer, probes, Request, Outcome, ended, try_interval, sweep}
+use Rattle.model.specs.Search.{answer, probes, Request, Outcome, try_interval, sweep}
 use Rattle.model.proofs.File.{accepted_ok}
 use Rattle.model.proofs.Table.{table_nil, cells_nothing}
 use Rattle.model.proofs.Counts.{legal_nil}
 use Rattle.descent.specs.Tree.{res_of, run}
 use Rattle.descent.specs.Descent.{tell, Wrote, Ready, Done, below}
-use Rattle.search.specs.Sweep.{Clear, outcome_of, SweptIs, Within}
+use Rattle.search.specs.Sweep.{Clear, outcome_of, SweptIs}
+use Rattle.search.specs.declared.Unsolved.TheVariants.{NoSchedule, BudgetSpent}
 use Rattle.descent.specs.declared.Found.{Found}
 use Rattle.descent.specs.declared.Found.TheVariants.{All, Spent, Nothing}
-use Rattle.search.specs.declared.sweep.Swept.TheVariants as swept
 use Rattle.descent.proofs.Runs.{answer_run}
 
 -- ---- the intervals that are left
@@ -39,57 +41,27 @@ up_end ii cap l = let z : suc cap - ii ≡ 0 = omega arith in ap (up_from ii) z
 
 -- ---- one interval
 
-module _ (l : Loop) (q : Request) (b : Lower) (ii left k : ℕ) (later : ℕ → Outcome) (few : left ≤ q.budget) where
+module _ (l : Loop) (q : Request) (b : Lower) (n : ℕ) (starts : List ℕ) (ii left k : ℕ) (later : ℕ → Outcome) (few : left ≤ q.budget) where
   -- what the interval comes to, where its probes are k
   abbrev step : Option (List ℕ) → Outcome
   step o = try_interval l q b ii (q.budget - left + k) o (later (q.budget - left + k))
 
-  -- the budget is spent
-  step_spent : (o : Option (List ℕ)) → Dec (left < k) → tell (res_of left o k) ≡ Spent → step o ≡ ended (record { number = 11; detail = ii }) q.budget
-  step_spent none (yes m) e = rw (lt-ltb q.budget (q.budget - left + k) (omega arith))
-  step_spent (some a) (yes m) e = rw (lt-ltb q.budget (q.budget - left + k) (omega arith))
-  step_spent none (no m) e =
-      let t : tell (res_of left none k) ≡ Nothing (left - k) = rw (le-ltb left k (omega arith)) in
-      let z : ◌≡◌ {A = ℕ} 0 1 = cc in
-      absurd (omega arith)
-  step_spent (some a) (no m) e =
-      let t : tell (res_of left (some a) k) ≡ All (left - k) = rw (le-ltb left k (omega arith)) in
-      let z : ◌≡◌ {A = ℕ} 0 1 = cc in
-      absurd (omega arith)
+  -- the same by what is said of it: a list is found, there is none, or the budget is spent; and no more is left than there was
+  abbrev CameTo : Found → Outcome → Type 0
+  CameTo (All m) out = (m ≤ left) × (answered out ≡ outcome_of l b n starts (Ok (ii, q.budget - m)))
+  CameTo (Nothing m) out = (m ≤ left) × (out ≡ later (q.budget - m))
+  CameTo Spent out = answered out ≡ outcome_of l b n starts (Err (BudgetSpent ii q.budget))
 
-  -- a list is found
-  step_all : (o : Option (List ℕ)) → Dec (left < k) → (n lft : ℕ) (starts : List ℕ) → tell (res_of left o k) ≡ All lft → Wrote n [] starts (res_of left o k)
-      → (lft ≤ left) × (step o ≡ outcome_of l q b n starts (swept.Found ii lft))
-  step_all o (yes m) n lft starts e w =
-      let t : tell (res_of left o k) ≡ Spent = rw (lt-ltb left k m) in
-      let z : ◌≡◌ {A = ℕ} 0 1 = cc in
-      absurd (omega arith)
-  step_all none (no m) n lft starts e w =
-      let t : tell (res_of left none k) ≡ Nothing (left - k) = rw (le-ltb left k (omega arith)) in
-      let z : ◌≡◌ {A = ℕ} 0 1 = cc in
-      absurd (omega arith)
-  step_all (some a) (no m) n lft starts e w =
-      let t : tell (res_of left (some a) k) ≡ All (left - k) = rw (le-ltb left k (omega arith)) in
-      let z : left - k ≡ lft = cc in
-      let y : q.budget - left + k ≡ q.budget - lft = omega arith in
+  came_to : (o : Option (List ℕ)) → Dec (left < k) → Wrote n [] starts (res_of left o k) → CameTo (tell (res_of left o k)) (step o)
+  came_to none (yes m) w = rw (lt-ltb left k m, lt-ltb q.budget (q.budget - left + k) (omega arith))
+  came_to (some a) (yes m) w = rw (lt-ltb left k m, lt-ltb q.budget (q.budget - left + k) (omega arith))
+  came_to none (no m) w =
+      let y : q.budget - left + k ≡ q.budget - (left - k) = omega arith in
+      rw (le-ltb left k (omega arith), le-ltb q.budget (q.budget - left + k) (omega arith)) (omega arith, ap later y)
+  came_to (some a) (no m) w =
+      let y : q.budget - left + k ≡ q.budget - (left - k) = omega arith in
       let v : take n starts ≡ a = rw (le-ltb left k (omega arith)) at w in
-      (omega arith, rw (le-ltb q.budget (q.budget - left + k) (omega arith), y, v))
-
-  -- there is none
-  step_none : (o : Option (List ℕ)) → Dec (left < k) → (lft : ℕ) → tell (res_of left o k) ≡ Nothing lft → (lft ≤ left) × (step o ≡ later (q.budget - lft))
-  step_none o (yes m) lft e =
-      let t : tell (res_of left o k) ≡ Spent = rw (lt-ltb left k m) in
-      let z : ◌≡◌ {A = ℕ} 0 1 = cc in
-      absurd (omega arith)
-  step_none (some a) (no m) lft e =
-      let t : tell (res_of left (some a) k) ≡ All (left - k) = rw (le-ltb left k (omega arith)) in
-      let z : ◌≡◌ {A = ℕ} 0 1 = cc in
-      absurd (omega arith)
-  step_none none (no m) lft e =
-      let t : tell (res_of left none k) ≡ Nothing (left - k) = rw (le-ltb left k (omega arith)) in
-      let z : left - k ≡ lft = cc in
-      let y : q.budget - left + k ≡ q.budget - lft = omega arith in
-      (omega arith, rw (le-ltb q.budget (q.budget - left + k) (omega arith)) (ap later y))
+      rw (le-ltb left k (omega arith), le-ltb q.budget (q.budget - left + k) (omega arith), y, v) (omega arith, refl)
 
 -- ---- the turns of the loop
 
@@ -119,9 +91,9 @@ module _ {f starts₀ rows₀ : List ℕ} {n least cap h budget : ℕ} (clear : 
 
   module _ {starts rows : List ℕ} {left ii : ℕ} (pass : Pass f starts₀ rows₀ n least cap h budget starts rows left ii) where
     -- no interval is left
-    pub ends : cap < ii → SweptIs f n least cap h budget starts (swept.Nothing left)
+    pub ends : cap < ii → SweptIs f n least cap h budget starts (Err (NoSchedule cap (budget - left)))
     unfolding sweep
-    ends m b = ap (sweep (loop_of f) (asking cap h budget) b (budget - left)) (sym (up_end ii cap m)) ∙ pass.to_come b
+    ends m b = ap answered (ap (sweep (loop_of f) (asking cap h budget) b (budget - left)) (sym (up_end ii cap m)) ∙ pass.to_come b)
 
     module _ (m : ii ≤ cap) where
       -- an interval can be searched
@@ -163,37 +135,36 @@ module _ {f starts₀ rows₀ : List ℕ} {n least cap h budget : ℕ} (clear : 
       onward b spent = sweep (loop_of f) (asking cap h budget) b spent (up_from (suc ii) (suc cap - suc ii))
 
       -- the interval, then the later ones
-      comes_to : (b : Lower) → step (loop_of f) (asking cap h budget) b ii left taken (onward b) pass.paid has ≡ sweep (loop_of f) (asking cap h budget) b 0 (up_from least (suc cap - least))
+      comes_to : (b : Lower) → try_interval (loop_of f) (asking cap h budget) b ii (budget - left + taken) has (onward b (budget - left + taken)) ≡ sweep (loop_of f) (asking cap h budget) b 0 (up_from least (suc cap - least))
       unfolding sweep
       comes_to b = ap (sweep (loop_of f) (asking cap h budget) b (budget - left)) (sym (up_cons ii cap m)) ∙ pass.to_come b
 
-      module _ {later : List ℕ} {r : Found} (done : Done (below f starts 0 n ii h left) n 0 (take 0 starts) starts later r) where
-        -- a list is found, with no more left than there was
-        pub finds : (k : ℕ) → r ≡ All k → SweptIs f n least cap h budget later (swept.Found ii k) × Within budget (swept.Found ii k)
-        finds k e =
-            let t : tell (res_of left has taken) ≡ All k = ap tell (sym is_res) ∙ sym done.says ∙ e in
-            let w : Wrote n [] later (res_of left has taken) = rw is_res at done.list in
-            let x : (b : Lower) → (k ≤ left) × (step (loop_of f) (asking cap h budget) b ii left taken (onward b) pass.paid has ≡ outcome_of (loop_of f) (asking cap h budget) b n later (swept.Found ii k)) =
-            λ b. step_all (loop_of f) (asking cap h budget) b ii left taken (onward b) pass.paid has (dec_lt left taken) n k later t w in
-            (λ b. sym (x b).1 ∙ comes_to b, omega (arith, pass.paid, (x (record { resource = 0; recurrence = 0 })).0))
+      -- what the search of the interval leaves
+      abbrev Left : List ℕ → Found → Type 0
+      Left later r = Done (below f starts 0 n ii h left) n 0 (take 0 starts) starts later r
 
-        -- the budget is spent
-        pub stops : r ≡ Spent → SweptIs f n least cap h budget later (swept.Spent ii)
-        stops e b =
-            sym (step_spent (loop_of f) (asking cap h budget) b ii left taken (onward b) pass.paid has (dec_lt left taken) (ap tell (sym is_res) ∙ sym done.says ∙ e))
-            ∙ comes_to b
+      turned : (b : Lower) (later : List ℕ) (r : Found) → Left later r
+          → CameTo (loop_of f) (asking cap h budget) b n later ii left taken (onward b) pass.paid r (try_interval (loop_of f) (asking cap h budget) b ii (budget - left + taken) has (onward b (budget - left + taken)))
+      turned b later r done =
+          rw (done.says, is_res)
+          (came_to (loop_of f) (asking cap h budget) b n later ii left taken (onward b) pass.paid has (dec_lt left taken) (rw is_res at done.list))
 
-        -- there is no list
-        pub goes_on : {rows₁ : List ℕ} (k : ℕ) → rows₁ ≡ rows → r ≡ Nothing k → Pass f starts₀ rows₀ n least cap h budget later rows₁ k (ii + 1)
-        goes_on k same e =
-            let t : tell (res_of left has taken) ≡ Nothing k = ap tell (sym is_res) ∙ sym done.says ∙ e in
-            let x : (b : Lower) → (k ≤ left) × (step (loop_of f) (asking cap h budget) b ii left taken (onward b) pass.paid has ≡ onward b (budget - k)) =
-            λ b. step_none (loop_of f) (asking cap h budget) b ii left taken (onward b) pass.paid has (dec_lt left taken) k t in
-            record {
-              rows_same = same ∙ pass.rows_same;
-              same_length = done.same_length ∙ pass.same_length;
-              from_least = omega (arith, pass.from_least);
-              paid = omega (arith, pass.paid, (x (record { resource = 0; recurrence = 0 })).0);
-              to_come = λ b.
-                  ap (λ (j : ℕ). sweep (loop_of f) (asking cap h budget) b (budget - k) (up_from j (suc cap - j))) (add-one ii) ∙ sym (x b).1 ∙ comes_to b;
-            }
+      -- a list is found, with no more left than there was
+      pub finds : {later : List ℕ} {k : ℕ} → Left later (All k) → SweptIs f n least cap h budget later (Ok (ii, budget - k)) × (k ≤ budget)
+      finds {later} {k} done = (λ b. sym (turned b later (All k) done).1 ∙ ap answered (comes_to b), omega (arith, pass.paid, (turned (record { resource = 0; recurrence = 0 }) later (All k) done).0))
+
+      -- the budget is spent
+      pub stops : {later : List ℕ} → Left later Spent → SweptIs f n least cap h budget later (Err (BudgetSpent ii budget))
+      stops {later} done b = sym (turned b later Spent done) ∙ ap answered (comes_to b)
+
+      -- there is no list
+      pub goes_on : {later rows₁ : List ℕ} {k : ℕ} → rows₁ ≡ rows → Left later (Nothing k) → Pass f starts₀ rows₀ n least cap h budget later rows₁ k (ii + 1)
+      goes_on {later} {k = k} same done =
+          record {
+            rows_same = same ∙ pass.rows_same;
+            same_length = done.same_length ∙ pass.same_length;
+            from_least = omega (arith, pass.from_least);
+            paid = omega (arith, pass.paid, (turned (record { resource = 0; recurrence = 0 }) later (Nothing k) done).0);
+            to_come = λ b.
+                ap (λ (j : ℕ). sweep (loop_of f) (asking cap h budget) b (budget - k) (up_from j (suc cap - j))) (add-one ii) ∙ sym (turned b later (Nothing k) done).1 ∙ comes_to b;
+          }

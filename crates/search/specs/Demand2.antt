@@ -1,5 +1,5 @@
 -- Demand 2, as one statement: what a search that was made answers is right, and each end of it is said exactly where it is true. None of these words mentions the list of words by which the model defines the answer. Assumes nothing.
-use Rattle.std.specs.Prelude.{◌≡◌, true, false, List, ◌⊎◌, ℕ, suc, ◌-◌, ◌≤◌, ◌<◌, max, length}
+use Rattle.std.specs.Prelude.{◌≡◌, true, false, List, ◌⊎◌, ℕ, suc, ◌-◌, ◌≤◌, ◌<◌, max, length, Result}
 use Rattle.std.proofs.Math.Option.{none}
 use Rattle.model.specs.Lists.{up_from, Below, sum_of}
 use Rattle.model.specs.Refusals.{Refusal, first_refusal, Answer, answered}
@@ -9,7 +9,8 @@ use Rattle.model.specs.Legality.{legal}
 use Rattle.model.specs.Bounds.{Lower, LowerIs}
 use Rattle.model.specs.Search.{not_after, probes, stage_count, Request, search_checks, Schedule, Outcome, found, ended}
 use Rattle.search.specs.Answer.{answer_of, Searches}
-use Rattle.search.specs.declared.Searched.{Searched}
+use Rattle.search.specs.declared.Solution.{Solution}
+use Rattle.search.specs.declared.Unsolved.{Unsolved}
 
 -- ---- words
 
@@ -91,7 +92,7 @@ pub record Ends (l : Loop) (q : Request) (b : Lower) (a : Answer Outcome) : Type
 -- for every file, request and lent memory that pass their checks, and every loop that has bounds: what `search` answers
 abbrev pub Demand2 : Type 0
 Demand2 =
-    (f : List ℕ) (q : Request) (list rows : List ℕ) (r : Searched) (list' rows' : List ℕ) (b : Lower)
+    (f : List ℕ) (q : Request) (list rows : List ℕ) (r : Result Solution Unsolved) (list' rows' : List ℕ) (b : Lower)
     → Searches f q.cap q.horizon q.budget list rows r list' rows'
     → first_refusal (search_checks f q (length list) (length rows)) ≡ none → LowerIs (loop_of f) (answered b)
     → Ends (loop_of f) q b (answer_of (loop_of f) list' r)

@@ -2,17 +2,10 @@
 ghost use Rattle.std.specs.Prelude.{◌≡◌};
 ghost use Rattle.search.specs.Sweep.{Clear, SweptIs, Within};
 
+use crate::Unsolved;
 use descent::{Found, choose};
 
-// What the sweep over the intervals comes to: the interval at which a list is found, and what is left of the budget; none, and what is left; the interval at which the budget is spent.
-#[derive(Clone, Copy)]
-pub enum Swept {
-    Found(usize, usize),
-    Nothing(usize),
-    Spent(usize),
-}
-
-// The intervals from `least` to the cap in turn, with one budget for all.
+// The intervals from `least` to the cap in turn, with one budget for all: the interval at which a list is found, and the probes that were made.
 pub fn sweep(
     file: &[u8],
     starts: &mut [u16; 64],
@@ -22,28 +15,27 @@ pub fn sweep(
     cap: usize,
     horizon: usize,
     budget: usize,
-) -> Swept
+) -> Result<(usize, usize), Unsolved>
     requires { Clear file.now starts.old rows.old n least cap horizon }
     ensures done { SweptIs file.now n least cap horizon budget starts.new result }
     ensures same { rows.new ≡ rows.old }
     ensures within { Within budget result }
 {
     let mut left = budget;
-    let mut ii = least;
-    while ii <= cap {
-        let f = choose(file, starts, rows, 0, n, ii, horizon, left);
-        match f {
-            Found::All(l) => {
-                return Swept::Found(ii, l);
-            }
+    for ii in least..=cap {
+        match choose(file, starts, rows, 0, n, ii, horizon, left) {
+            Found::All(l) => return Ok((ii, budget - l)),
             Found::Spent => {
-                return Swept::Spent(ii);
+                return Err(Unsolved::BudgetSpent {
+                    interval: ii,
+                    probes: budget,
+                });
             }
-            Found::Nothing(l) => {
-                left = l;
-            }
+            Found::Nothing(l) => left = l,
         }
-        ii = ii + 1;
     }
-    Swept::Nothing(left)
+    Err(Unsolved::NoSchedule {
+        cap,
+        probes: budget - left,
+    })
 }

@@ -4,104 +4,114 @@
 
 mod memory;
 
-use search::{Searched, Solution};
-use trial::drawn::least;
+use search::{Solution, Unsolved};
 use trial::loops::put_changed;
 
 // `: interval I resource R recurrence B stages S probes P`.
 fn found(s: Solution) {
     let numbers = [s.interval, s.resource, s.recurrence, s.stages, s.probes];
-    console::form(
+    console::list(
         b": interval % resource % recurrence % stages % probes %",
-        numbers,
+        &numbers,
     );
 }
 
-// `: refused N at D after K`.
-fn ended(n: usize, detail: usize, probes: usize) {
-    console::form(b": refused % at % after %", [n, detail, probes, 0, 0]);
-}
-
-// `: refused N at D`.
-fn refused(n: usize, detail: usize) {
-    console::form(b": refused % at %", [n, detail, 0, 0, 0]);
-}
-
-// One of these: the second for 10 and 11.
-fn answered(answer: Searched) {
-    match answer {
-        Searched::Found(s) => found(s),
-        Searched::Ended(n, detail, probes) => ended(n, detail, probes),
-        Searched::Refused(n, detail) => refused(n, detail),
+// `: refused N at D`, and ` after K` where a search was made.
+fn refused(unsolved: Unsolved) {
+    console::list(b": refused % at %", &[unsolved.number(), unsolved.detail()]);
+    match unsolved {
+        Unsolved::NoSchedule { probes, .. } | Unsolved::BudgetSpent { probes, .. } => {
+            console::list(b" after %", &[probes])
+        }
+        Unsolved::Refused(_) => {}
     }
 }
 
-// The search of the first bytes with the numbers of a case, in memory that is lent.
-fn searched(bytes: &[u8], q: [usize; 9], list: &mut [u16], rows: &mut [u64]) {
-    let n = least(q[1], bytes.len());
-    answered(search::search(&bytes[0..n], q[4], q[5], q[6], list, rows));
+// One of these.
+fn answered(answer: Result<Solution, Unsolved>) {
+    match answer {
+        Ok(s) => found(s),
+        Err(unsolved) => refused(unsolved),
+    }
+}
+
+// The numbers of a case: the file that is searched, the request, and the memory that is lent.
+#[derive(Clone, Copy)]
+struct Case {
+    file: usize,
+    length: usize,
+    at: usize,
+    byte: u8,
+    cap: usize,
+    horizon: usize,
+    allowance: usize,
+    list: usize,
+    rows: usize,
+}
+
+// The search of the first bytes with the request of a case, in memory that is lent.
+fn searched(bytes: &[u8], c: Case, list: &mut [u16], rows: &mut [u64]) {
+    let n = c.length.min(bytes.len());
+    answered(search::search(&bytes[..n], c.cap, c.horizon, c.allowance, list, rows));
 }
 
 // The same, and what it leaves there.
-fn shown(bytes: &[u8], q: [usize; 9], list: &mut [u16], rows: &mut [u64]) {
-    searched(bytes, q, list, rows);
+fn shown(bytes: &[u8], c: Case, list: &mut [u16], rows: &mut [u64]) {
+    searched(bytes, c, list, rows);
     memory::show_list(list);
     memory::show_rows(rows);
 }
 
 // The same, with as much of a list and a table as the case says.
-fn run(bytes: &[u8; 2000], q: [usize; 9]) {
-    let mut list = [65535u16; 66];
-    let mut rows = [18446744073709551615u64; 4100];
-    let l = least(q[7], 66);
-    let r = least(q[8], 4100);
-    shown(bytes, q, &mut list[0..l], &mut rows[0..r]);
+fn run(bytes: &[u8; 2000], c: Case) {
+    let mut list = [u16::MAX; 66];
+    let mut rows = [u64::MAX; 4100];
+    let l = c.list.min(66);
+    let r = c.rows.min(4100);
+    shown(bytes, c, &mut list[..l], &mut rows[..r]);
 }
 
-// Reads the numbers of a case, and writes `NAME, cap C, horizon H, allowance A, list L, rows R`.
-fn heading(line: &[u8]) -> [usize; 9] {
-    let mut q = [0usize; 9];
+// Reads a case, and writes `NAME, cap C, horizon H, allowance A, list L, rows R`.
+fn heading(line: &[u8]) -> Case {
+    let mut q = [0; 9];
     console::rest(line, console::numbers(line, 0, &mut q));
-    let numbers = [q[4], q[5], q[6], q[7], q[8]];
-    console::form(b", cap %, horizon %, allowance %, list %, rows %", numbers);
-    q
+    let [file, length, at, byte, cap, horizon, allowance, list, rows] = q;
+    let numbers = [cap, horizon, allowance, list, rows];
+    console::list(b", cap %, horizon %, allowance %, list %, rows %", &numbers);
+    let byte = (byte % 256) as u8;
+    Case {
+        file,
+        length,
+        at,
+        byte,
+        cap,
+        horizon,
+        allowance,
+        list,
+        rows,
+    }
 }
 
 // A case, and its search.
-fn case(line: &[u8]) {
-    let q = heading(line);
-    let mut bytes = [0u8; 2000];
-    put_changed(&mut bytes, q[0], q[2], (q[3] % 256) as u8);
-    run(&bytes, q);
+fn replay_case(line: &[u8]) {
+    let c = heading(line);
+    let mut bytes = [0; 2000];
+    put_changed(&mut bytes, c.file, c.at, c.byte);
+    run(&bytes, c);
     io::write_all(1, b"\n");
 }
 
 // A line of the table. One that begins with `#` is a comment.
 fn replay_line(line: &[u8]) {
-    if 0 < line.len() {
-        if line[0] != b'#' {
-            case(line);
-        }
-    }
-}
-
-// The lines of the table.
-fn replay(table: &[u8]) {
-    let mut at = 0;
-    while at < table.len() {
-        let end = console::find(table, at, b'\n');
-        replay_line(&table[at..end]);
-        at = end + 1;
+    match line {
+        [] | [b'#', ..] => {}
+        _ => replay_case(line),
     }
 }
 
 fn main(rt: HostRuntime) {
     let mut table = [0u8; 16384];
-    let input = console::read_all(&mut rt.stdin(), &mut table);
-    let n = input.count;
-    if input.whole {
-        replay(&table[..n]);
-    } else {
-        io::write_all(1, b"cannot read\n");
-    }
+    console::with_input(&mut rt.stdin(), &mut table, |text| {
+        console::each_line(text, replay_line)
+    });
 }

@@ -1,22 +1,51 @@
-// An answer as numbers, so that two can be compared: the library's, and its kind.
+// An answer in a form of this program's own, so that two can be compared; and the library's in that form.
 use crate::drawing::Request;
-use search::Searched;
+use search::{Solution, Unsolved};
 use trial::drawn::NOWHERE;
 use trial::file;
 
-// Six numbers, behind one for the kind of the answer: 0 a schedule, 1 refusal 10 or 11, 2 another refusal. And the starts; a place of the list that is not written keeps the largest number.
-#[derive(Clone, Copy)]
+// A schedule: its interval, its two bounds, its stages, and the probes that were made.
+#[derive(Clone, Copy, PartialEq)]
+pub struct Schedule {
+    pub interval: usize,
+    pub resource: usize,
+    pub recurrence: usize,
+    pub stages: usize,
+    pub probes: usize,
+}
+
+// A schedule; or none at any interval up to the cap (refusal 10), or at the intervals that the allowance suffices for (11), each with the probes that were made; or dependences that ask for more than
+// any interval gives (8); or any other refusal.
+#[derive(Clone, Copy, PartialEq)]
+pub enum Outcome {
+    Found(Schedule),
+    Unschedulable { cap: usize, probes: usize },
+    Spent { interval: usize, probes: usize },
+    Cyclic,
+    Other,
+}
+
+// An outcome with the starts; a place of the list that is not written keeps the largest number.
+#[derive(Clone, Copy, PartialEq)]
 pub struct Answer {
-    pub numbers: [usize; 6],
+    pub outcome: Outcome,
     pub starts: [u16; 6],
 }
 
-// The numbers of the library's answer.
-fn numbers(v: Searched) -> [usize; 6] {
-    match v {
-        Searched::Found(s) => [0, s.interval, s.resource, s.recurrence, s.stages, s.probes],
-        Searched::Ended(number, detail, probes) => [1, number, detail, probes, 0, 0],
-        Searched::Refused(number, detail) => [2, number, detail, 0, 0, 0],
+// What the library's answer says.
+fn said(answer: Result<Solution, Unsolved>) -> Outcome {
+    match answer {
+        Ok(s) => Outcome::Found(Schedule {
+            interval: s.interval,
+            resource: s.resource,
+            recurrence: s.recurrence,
+            stages: s.stages,
+            probes: s.probes,
+        }),
+        Err(Unsolved::NoSchedule { cap, probes }) => Outcome::Unschedulable { cap, probes },
+        Err(Unsolved::BudgetSpent { interval, probes }) => Outcome::Spent { interval, probes },
+        Err(Unsolved::Refused(refusal)) if refusal.number() == 8 => Outcome::Cyclic,
+        Err(Unsolved::Refused(_)) => Outcome::Other,
     }
 }
 
@@ -25,9 +54,9 @@ pub fn searched(r: Request) -> Answer {
     let d = r.drawn;
     let mut bytes = [0u8; 2000];
     let len = file::put_file(&mut bytes, d);
-    let mut rows = [18446744073709551615u64; 4096];
+    let mut rows = [u64::MAX; 4096];
     let mut starts = [NOWHERE; 6];
-    let v = search::search(
+    let answer = search::search(
         file::first(&bytes, len),
         d.interval as usize,
         d.horizon as usize,
@@ -36,47 +65,7 @@ pub fn searched(r: Request) -> Answer {
         &mut rows,
     );
     Answer {
-        numbers: numbers(v),
-        starts: starts,
+        outcome: said(answer),
+        starts,
     }
-}
-
-// Whether two answers are the same.
-pub fn same(a: Answer, b: Answer) -> bool {
-    let mut equal = true;
-    let mut i = 0;
-    while i < 6 {
-        equal = equal & (a.numbers[i] == b.numbers[i]) & (a.starts[i] == b.starts[i]);
-        i += 1;
-    }
-    equal
-}
-
-// The count that an answer belongs to: 2 found, 4 none, 6 spent, 7 cyclic, 8 any other.
-pub fn kind(numbers: &[usize; 6]) -> usize {
-    if numbers[0] == 0 {
-        return 2;
-    }
-    let number = numbers[1];
-    match number {
-        10 => 4,
-        11 => 6,
-        8 => 7,
-        _ => 8,
-    }
-}
-
-// The narrower count: 3 a schedule above the bounds, 5 no schedule after no probes, where the cap is below the bounds, 9 none.
-pub fn narrower(numbers: &[usize; 6]) -> usize {
-    let interval = numbers[1];
-    if numbers[0] == 0 {
-        if (interval == numbers[2]) | (interval == numbers[3]) {
-            return 9;
-        }
-        return 3;
-    }
-    if (interval == 10) & (numbers[3] == 0) {
-        return 5;
-    }
-    9
 }

@@ -1,6 +1,6 @@
 // Random loops with a request each.
 use trial::draw;
-use trial::drawn::{Drawn, least};
+use trial::drawn::Drawn;
 use trial::random::{next, pick};
 
 // A loop, tried with its interval as the cap, and the allowance of probes.
@@ -26,9 +26,9 @@ pub fn draw(seed: usize) -> Request {
     let c = next(b);
     let e = next(c);
     let f = next(e);
-    let m = least(pick(b, 0, 10), 5);
-    let cap = least(pick(c, 1, 18), 6);
-    let horizon = least(pick(e, 2, 6), 5);
+    let m = pick(b, 0, 10).min(5);
+    let cap = pick(c, 1, 18).min(6);
+    let horizon = pick(e, 2, 6).min(5);
     let d = draw::blank(f, pick(a, 2, 3), m, cap, horizon);
     let timed = draw::draw_latencies(d, 4);
     let used = draw::draw_uses(timed, 4);

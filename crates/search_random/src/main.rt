@@ -7,66 +7,89 @@ mod drawing;
 mod lower;
 mod words;
 
+use answer::Outcome;
 use trial::tally::more;
 
-// The generator's state, and the counts in the order of the line that prints them: how many loops agree, how many there are, and the answers of each kind.
+// What is counted, in the order of the line that prints it: the loops that agree, and all; and the answers of each kind.
+#[derive(Clone, Copy)]
+enum Count {
+    Agree,
+    All,
+    Found,
+    AboveBounds,
+    Unschedulable,
+    NothingTried,
+    Spent,
+    Cyclic,
+    Other,
+}
+
+// The generator's state, and the counts.
 #[derive(Drop)]
 struct Tally {
     seed: usize,
     counts: [usize; 9],
 }
 
-// 0, where a loop that agrees is counted, or 9, and a line that says that it does not.
-fn told(agrees: bool, i: usize) -> usize {
-    if agrees {
-        return 0;
+// The count that an answer belongs to.
+fn kind(outcome: Outcome) -> Count {
+    match outcome {
+        Outcome::Found(_) => Count::Found,
+        Outcome::Unschedulable { .. } => Count::Unschedulable,
+        Outcome::Spent { .. } => Count::Spent,
+        Outcome::Cyclic => Count::Cyclic,
+        Outcome::Other => Count::Other,
     }
-    console::form(b"loop %: differ\n", [i, 0, 0, 0, 0]);
-    9
 }
 
-// The tally with loop i, which is drawn from its state.
+// The narrower count: a schedule above the bounds, or no schedule after no probes, where the cap is below the bounds.
+fn narrower(outcome: Outcome) -> Option<Count> {
+    match outcome {
+        Outcome::Found(s) if s.interval != s.resource && s.interval != s.recurrence => {
+            Some(Count::AboveBounds)
+        }
+        Outcome::Unschedulable { probes: 0, .. } => Some(Count::NothingTried),
+        _ => None,
+    }
+}
+
+// The tally with loop i, which is drawn from its state. Of one that does not agree a line says so.
 fn with(t: Tally, i: usize) -> Tally {
     let r = drawing::draw(t.seed);
     let found = answer::searched(r);
-    let sought = words::sought(r);
-    let before = t.counts;
-    let agreed = more(before, told(answer::same(found, sought), i));
-    let numbers = found.numbers;
-    let kind = more(more(agreed, 1), answer::kind(&numbers));
-    let counts = more(kind, answer::narrower(&numbers));
-    let d = r.drawn;
+    let agrees = found == words::sought(r);
+    if !agrees {
+        console::list(b"loop %: differ\n", &[i]);
+    }
+    let kinds = [
+        agrees.then_some(Count::Agree),
+        Some(Count::All),
+        Some(kind(found.outcome)),
+        narrower(found.outcome),
+    ];
+    let counts = kinds
+        .into_iter()
+        .flatten()
+        .fold(t.counts, |counts, kind| more(counts, kind as usize));
     Tally {
-        seed: d.seed,
-        counts: counts,
+        seed: r.drawn.seed,
+        counts,
     }
-}
-
-// The tally with loops `from` to `to` - 1.
-fn through(from: usize, to: usize, t: Tally) -> Tally {
-    let mut out = t;
-    let mut i = from;
-    while i < to {
-        out = with(out, i);
-        i += 1;
-    }
-    out
 }
 
 // A line for each 100 loops, with those before them.
 fn main() {
     let mut t = Tally {
         seed: 1,
-        counts: [0usize; 9],
+        counts: [0; 9],
     };
-    let mut i = 0;
-    while i < 1000 {
-        t = through(i, i + 100, t);
-        i += 100;
-        let counts = t.counts;
-        console::list(
-            b"% of % agree: found % (% above the bounds), none % (% with no interval to try), spent %, cyclic %, other %\n",
-            &counts,
-        );
+    for i in 0..1000 {
+        t = with(t, i);
+        if i % 100 == 99 {
+            console::list(
+                b"% of % agree: found % (% above the bounds), none % (% with no interval to try), spent %, cyclic %, other %\n",
+                &t.counts,
+            );
+        }
     }
 }

@@ -7,6 +7,7 @@ use Prim.Native.Nat.{ℕ, suc, ◌^◌, ◌≤◌, ◌<◌}
 use native.Mathlib.Omega.{arith}
 use lib.ListN.{length, get_or, take, drop, length-map, length-append, length-drop}
 use lib.Seq.{length-take-le, take_at, drop_at}
+use Rattle.std.specs.Prelude.{Result, Ok}
 use Rattle.model.specs.Refusals.{Refusal, first_refusal, Answer, answered, settled}
 use Rattle.model.specs.Loop.{LoopOk}
 use Rattle.model.specs.File.{loop_of}
@@ -28,7 +29,7 @@ use Rattle.session.specs.View.{setup_of, state_of, file_of, Valid, Stepped, Open
 use Rattle.session.specs.Undo.{Run, stop, next, Demand3}
 use Rattle.session.specs.declared.Session.{Session}
 use Rattle.board.specs.declared.Reply.{Reply}
-use Rattle.refusals.specs.declared.Checked.TheVariants as checked
+use Rattle.refusals.specs.declared.Refusal as code
 use Rattle.board.proofs.Boards.{same_seats}
 
 -- ---- a session by the model
@@ -62,7 +63,7 @@ module _ {u : Setup} {st : State} {rest : List ℕ} {s : Session} {rows : List �
 -- ---- calls
 
 -- after a call
-stepped_stands : {c : Call} {s s' : Session} {rows rows' : List ℕ} {r : Reply} → Stepped c s rows s' rows' r
+stepped_stands : {c : Call} {s s' : Session} {rows rows' : List ℕ} {r : Result Reply code.Refusal} → Stepped c s rows s' rows' r
     → Stands (setup_of s) (step (setup_of s) c (state_of s)).0 (drop s.interval rows) s' rows'
 stepped_stands {s} {rows} t = record {
   state = t.state;
@@ -73,7 +74,7 @@ stepped_stands {s} {rows} t = record {
 }
 
 -- a call on a session that stands: its answer, and where it leads
-step_stands : {u : Setup} {st : State} {rest : List ℕ} {c : Call} {s s' : Session} {rows rows' : List ℕ} {r : Reply}
+step_stands : {u : Setup} {st : State} {rest : List ℕ} {c : Call} {s s' : Session} {rows rows' : List ℕ} {r : Result Reply code.Refusal}
     → Stands u st rest s rows → Stepped c s rows s' rows' r → (reply_of r ≡ (step u c st).1) × Stands u (step u c st).0 rest s' rows'
 step_stands {c} {s} {s'} {rows} {rows'} a t = (
   t.reply ∙ ap₂ (λ (v : Setup) (x : State). (step v c x).1) a.setup a.state,
@@ -92,7 +93,7 @@ ran {u = u} {st = st} a (next {c = c} t r) =
     (ap₂ (λ (x : Answer model.Reply) (xs : List (Answer model.Reply)). x ∷ xs) b.0 d.0, d.1)
 
 -- no call changes how many rows there are
-pub stepped_length : {c : Call} {s s' : Session} {rows rows' : List ℕ} {r : Reply} → Valid s rows → Stepped c s rows s' rows' r → length rows' ≡ length rows
+pub stepped_length : {c : Call} {s s' : Session} {rows rows' : List ℕ} {r : Result Reply code.Refusal} → Valid s rows → Stepped c s rows s' rows' r → length rows' ≡ length rows
 stepped_length {s = s} {s'} {rows} v t =
     let e : length (state_table (setup_of s) (state_of s')) ≡ s.interval = length_table 2 s.interval _ in
     ap length t.rows_are ∙ length-append (state_table (setup_of s) (state_of s')) (drop s.interval rows) ∙ omega (arith, e, length-drop s.interval rows, v.board.held.long)
@@ -100,7 +101,7 @@ stepped_length {s = s} {s'} {rows} v t =
 -- ---- a list of calls, one by one
 
 -- one call more
-pub run_then : {c : Call} {cs : List Call} {rs : List (Answer model.Reply)} {s s' s'' : Session} {rows rows' rows'' : List ℕ} {r : Reply}
+pub run_then : {c : Call} {cs : List Call} {rs : List (Answer model.Reply)} {s s' s'' : Session} {rows rows' rows'' : List ℕ} {r : Result Reply code.Refusal}
     → Run s rows cs rs s' rows' → Stepped c s' rows' s'' rows'' r → Run s rows (cs ++ (c ∷ [])) (rs ++ (reply_of r ∷ [])) s'' rows''
 run_then stop t = next t stop
 run_then (next u run) t = next u (run_then run t)
@@ -113,7 +114,7 @@ run_count (next t run) = ap suc (run_count run)
 -- ---- opening
 
 -- a session that was opened stands at the start
-pub from_open : {f : List ℕ} {ii h : ℕ} {rows₀ rows : List ℕ} {s : Session} → Opened f ii h rows₀ s checked.Fine rows
+pub from_open : {f : List ℕ} {ii h : ℕ} {rows₀ rows : List ℕ} {s : Session} → Opened f ii h rows₀ (Ok s) rows
     → Stands (setup_as f ii h) (start (setup_as f ii h)) (drop ii rows₀) s rows
 unfolding open_file
 from_open {f} {ii} {h} {rows₀} {s} o =
@@ -121,11 +122,11 @@ from_open {f} {ii} {h} {rows₀} {s} o =
     let e : setup_of s ≡ setup_as f ii h = same (first_refusal (open_checks f ii h (length rows₀))) o.says in
     let a : open_file f ii h (length rows₀) ≡ answered (setup_as f ii h) = sym o.says ∙ ap answered e in
     record {
-      state = o.state u a;
+      state = o.state s refl ∙ ap start e;
       setup = e;
       rows_are = o.rows_are ∙ ap (λ (x : Answer Setup). open_rows x rows₀) a ∙ ap (λ (x : List ℕ). x ++ drop ii rows₀) (sym (start_table u));
-      free_are = o.free u a;
-      valid = o.valid u a;
+      free_are = o.free s refl;
+      valid = o.valid s refl;
     }
   where
     same : {v w : Setup} (x : Option Refusal) → answered v ≡ settled x w → v ≡ w
@@ -153,7 +154,7 @@ valid_bits {s} {rows} v =
     )
 
 -- rolling back to a checkpoint m since which no call answered m gives the very state, rows and numbers of then
-very_back : {s s₁ s₂ s' : Session} {rows rows₁ rows₂ rows' : List ℕ} {r₁ r : Reply} {cs₂ : List Call} {rs₂ : List (Answer model.Reply)} (m : ℕ)
+very_back : {s s₁ s₂ s' : Session} {rows rows₁ rows₂ rows' : List ℕ} {r₁ r : Result Reply code.Refusal} {cs₂ : List Call} {rs₂ : List (Answer model.Reply)} (m : ℕ)
     → Stepped checkpoint s₁ rows₁ s₂ rows₂ r₁ → reply_of r₁ ≡ answered (numbered m) → Run s₂ rows₂ cs₂ rs₂ s rows → NoneGives m rs₂
     → m ≤ s.marks → Stepped (rollback m) s rows s' rows' r
     → (state_of s' ≡ state_of s₂) × (rows' ≡ rows₂) × (s'.free ≡ s₂.free)
@@ -167,7 +168,7 @@ very_back {s₁} {rows₁} {cs₂} m t e run still high t' =
     (d.state ∙ same ∙ sym a.state, rows_same, d.free_are ∙ ap (free_rows u.ii) rows_same ∙ sym a.free_are)
 
 -- rolling back to an open checkpoint m, after calls since the opening, is done and gives the state just after the last call that answered m, its rows and its numbers
-went_back_lem : {u : Setup} {rest : List ℕ} {s s' : Session} {rows rows' : List ℕ} {r : Reply} (m : ℕ) (cs : List Call) → Stands u (after u cs (start u)) rest s rows
+went_back_lem : {u : Setup} {rest : List ℕ} {s s' : Session} {rows rows' : List ℕ} {r : Result Reply code.Refusal} (m : ℕ) (cs : List Call) → Stands u (after u cs (start u)) rest s rows
     → 1 ≤ m → m ≤ s.marks → Stepped (rollback m) s rows s' rows' r
     → (reply_of r ≡ answered done)
     × (state_of s' ≡ marked_by u m cs (start u) (start u))

@@ -1,15 +1,15 @@
 -- From what the calls do to starts and rows to `Stepped`, for each return of each call. Assumes nothing.
 use mathlib.Core.Path.{◌≡◌, refl, sym, ap, ap₂, ◌∙◌}
 use mathlib.Core.List.{List, [], ◌∷◌, ◌++◌, map}
-use mathlib.Core.Logic.{◌⊎◌, inl, inr}
 use mathlib.Core.Option.{Option, none, some}
 use Prim.Native.Nat.{ℕ, ◌+◌, ◌-◌, ◌≤◌, ◌<◌}
-use native.Mathlib.Nat.{eq-or-lt_of_le}
 use native.Mathlib.Numerals.{add-one}
 use native.Mathlib.Omega.{arith}
+use borrow.Author.Count.{below_more}
 use borrow.Author.Tests.{eq-eqb, ne_eqb, le-leb, lt-ltb}
 use lib.ListN.{length, get_or, set, take, drop, length-map, length-set, take-append-drop}
 use lib.Seq.{length-take-le, take-suc-set, take-take, get_or-take, get_or-set_same, get_or-set_other}
+use Rattle.std.specs.Prelude.{Result, Ok, Err}
 use Rattle.model.specs.Refusals.{Refusal, Check, first_refusal, Answer, answered, settled}
 use Rattle.model.specs.Loop.{size}
 use Rattle.model.specs.File.{loop_of}
@@ -23,6 +23,9 @@ use Rattle.model.proofs.Table.{table_take}
 use Rattle.model.proofs.Free.{free_table}
 use Rattle.model.proofs.Session.{step_refused, step_done, checkpoint_done, rollback_done}
 use Rattle.reservation.specs.Seats.{seats}
+use Rattle.refusals.specs.Told.{told}
+use Rattle.refusals.specs.declared.Refusal as code
+use Rattle.refusals.specs.declared.Refusal.TheVariants as refusal
 use Rattle.board.specs.Board.{starts_of, Sane, Board}
 use Rattle.board.specs.Moves.{Did, Restored}
 use Rattle.session.specs.View.{file_of, setup_of, state_of, blank, kept_now, free_of_starts, Valid, Stepped}
@@ -31,7 +34,6 @@ use Rattle.session.specs.declared.Session.{Session}
 use Rattle.board.specs.declared.Reply as declared
 use Rattle.board.specs.declared.Reply.TheVariants as reply
 use Rattle.board.proofs.Boards.{same_seats}
-use Rattle.board.proofs.Effects.{done_kept}
 
 -- ---- rows
 
@@ -65,13 +67,13 @@ step_plain u c a cs p q =
     pick (some r) = refl
 
 -- the session with other starts and numbers
-abbrev pub with_placed : Session → (xs free : List ℕ) → Session
+abbrev with_placed : Session → (xs free : List ℕ) → Session
 with_placed s xs free =
     record { file = s.file; length = s.length; interval = s.interval; horizon = s.horizon; starts = xs; free = free; marks = s.marks; saved = s.saved }
 
 module _ (s : Session) (rows : List ℕ) (v : Valid s rows) where
   -- from what a call did to the starts, the rows and the numbers
-  pub stepped_plain : (c : Call) {xs' rows' free' : List ℕ} {r : declared.Reply}
+  pub stepped_plain : (c : Call) {xs' rows' free' : List ℕ} {r : Result declared.Reply code.Refusal}
       → ((a : Starts) (cs : List Starts) → checks (setup_of s) c (mk a cs) ≡ checks (setup_of s) c (mk a []))
       → ((a : Starts) (cs : List Starts) → effect (setup_of s) c (mk a cs) ≡ (mk (effect (setup_of s) c (mk a [])).0.starts cs, (effect (setup_of s) c (mk a [])).1))
       → Did c (file_of s) s.interval s.horizon s.starts rows xs' rows' r × (free' ≡ free_rows s.interval rows') → Stepped c s rows (with_placed s xs' free') rows' r
@@ -102,9 +104,9 @@ module _ (s : Session) (rows : List ℕ) (v : Valid s rows) where
       }
 
   -- a call refused before anything was looked at
-  pub stepped_refused : (c : Call) (n k : ℕ) → first_refusal (checks (setup_of s) c (state_of s)) ≡ some (record { number = n; detail = k }) → Stepped c s rows s rows (reply.Refused n k)
-  stepped_refused c n k e =
-      let z = step_refused (setup_of s) c (state_of s) (record { number = n; detail = k }) e in
+  stepped_refused : (c : Call) (r : code.Refusal) → first_refusal (checks (setup_of s) c (state_of s)) ≡ some (told r) → Stepped c s rows s rows (Err r)
+  stepped_refused c r e =
+      let z = step_refused (setup_of s) c (state_of s) (told r) e in
       record {
         reply = sym (ap (λ (x : State × Answer Reply). x.1) z);
         state = sym (ap (λ (x : State × Answer Reply). x.0) z);
@@ -121,16 +123,16 @@ module _ (s : Session) (rows : List ℕ) (v : Valid s rows) where
 
   -- ---- checkpoint
 
-  pub full : 16 ≤ s.marks → Stepped checkpoint s rows s rows (reply.Refused 18 0)
+  pub full : 16 ≤ s.marks → Stepped checkpoint s rows s rows (Err refusal.Checkpoints)
   unfolding first_refusal
-  full h = stepped_refused checkpoint 18 0 (rw (open_count, le-leb 16 s.marks h))
+  full h = stepped_refused checkpoint refusal.Checkpoints (rw (open_count, le-leb 16 s.marks h))
 
   -- the session with one checkpoint more
   abbrev marked : Session
   marked =
       record { file = s.file; length = s.length; interval = s.interval; horizon = s.horizon; starts = s.starts; free = s.free; marks = s.marks + 1; saved = set s.saved s.marks (kept_now s) }
 
-  pub stepped_checkpoint : s.marks < 16 → Stepped checkpoint s rows marked rows (reply.Numbered (s.marks + 1))
+  pub stepped_checkpoint : s.marks < 16 → Stepped checkpoint s rows marked rows (Ok (reply.Numbered (s.marks + 1)))
   stepped_checkpoint h =
       let z = checkpoint_done (setup_of s) (state_of s) (omega (arith, open_count)) in
       record {
@@ -147,10 +149,10 @@ module _ (s : Session) (rows : List ℕ) (v : Valid s rows) where
               few = omega arith;
               board = v.board;
               free = v.free;
-              kept = λ i l. pick i (eq-or-lt_of_le (before i l));
-              kept_free = λ i l. pick_free i (eq-or-lt_of_le (before i l));
+              kept = pick;
+              kept_free = pick_free;
             };
-        same = λ x w. done_kept _ x w;
+        same = λ x w. cc;
       }
     where
       read : kept.Kept → Starts
@@ -161,24 +163,20 @@ module _ (s : Session) (rows : List ℕ) (v : Valid s rows) where
           ap (map read) (ap (λ (n : ℕ). take n (set s.saved s.marks (kept_now s))) (add-one s.marks) ∙ take-suc-set s.saved s.marks (kept_now s) (omega (arith, v.saved_all)))
           ∙ map_append read (take s.marks s.saved) (kept_now s ∷ [])
 
-      before : (i : ℕ) → i < s.marks + 1 → i ≤ s.marks
-      before i l = omega arith
+      pick : (i : ℕ) → i < s.marks + 1 → Sane (loop_of (file_of s)) s.interval s.horizon (get_or (set s.saved s.marks (kept_now s)) i blank).starts
+      pick = below_more _ _ (λ i l. rw (get_or-set_other s.saved s.marks i (kept_now s) blank (λ e. omega arith)) (v.kept i l))
+          (rw (get_or-set_same s.saved s.marks (kept_now s) blank (omega (arith, v.saved_all))) v.board.sane)
 
-      pick : (i : ℕ) → (i ≡ s.marks) ⊎ (i < s.marks) → Sane (loop_of (file_of s)) s.interval s.horizon (get_or (set s.saved s.marks (kept_now s)) i blank).starts
-      pick i (inl e) = rw (e, get_or-set_same s.saved s.marks (kept_now s) blank (omega (arith, v.saved_all))) v.board.sane
-      pick i (inr l) = rw (get_or-set_other s.saved s.marks i (kept_now s) blank (λ e. omega arith)) (v.kept i l)
-
-      pick_free : (i : ℕ) → (i ≡ s.marks) ⊎ (i < s.marks) → let p = get_or (set s.saved s.marks (kept_now s)) i blank in p.free ≡ free_of_starts s p.starts
-      pick_free i (inl e) =
-          rw (e, get_or-set_same s.saved s.marks (kept_now s) blank (omega (arith, v.saved_all)))
-          (v.free ∙ free_table s.interval (cells_of (loop_of (file_of s)) s.interval (seats s.starts)) rows v.board.held)
-      pick_free i (inr l) = rw (get_or-set_other s.saved s.marks i (kept_now s) blank (λ e. omega arith)) (v.kept_free i l)
+      pick_free : (i : ℕ) → i < s.marks + 1 → let p = get_or (set s.saved s.marks (kept_now s)) i blank in p.free ≡ free_of_starts s p.starts
+      pick_free = below_more _ _ (λ i l. rw (get_or-set_other s.saved s.marks i (kept_now s) blank (λ e. omega arith)) (v.kept_free i l))
+          (rw (get_or-set_same s.saved s.marks (kept_now s) blank (omega (arith, v.saved_all)))
+          (v.free ∙ free_table s.interval (cells_of (loop_of (file_of s)) s.interval (seats s.starts)) rows v.board.held))
 
   -- ---- release
 
-  pub none_open : s.marks ≡ 0 → Stepped release s rows s rows (reply.Refused 19 0)
+  pub none_open : s.marks ≡ 0 → Stepped release s rows s rows (Err refusal.NoCheckpoint)
   unfolding first_refusal
-  none_open e = stepped_refused release 19 0 (rw (open_count, eq-eqb s.marks 0 e))
+  none_open e = stepped_refused release refusal.NoCheckpoint (rw (open_count, eq-eqb s.marks 0 e))
 
   -- the session with n checkpoints, of those that are open
   abbrev fewer : ℕ → Session
@@ -188,7 +186,7 @@ module _ (s : Session) (rows : List ℕ) (v : Valid s rows) where
   first_open : (n : ℕ) → n ≤ s.marks → (state_of (fewer n)).checkpoints ≡ take n (state_of s).checkpoints
   first_open n h = ap (map _) (sym (take-take n s.marks s.saved h)) ∙ map_take _ n (take s.marks s.saved)
 
-  pub stepped_release : (s.marks ≡ 0 → ⊥) → Stepped release s rows (fewer (s.marks - 1)) rows reply.Done
+  pub stepped_release : (s.marks ≡ 0 → ⊥) → Stepped release s rows (fewer (s.marks - 1)) rows (Ok reply.Done)
   unfolding first_refusal
   stepped_release n =
       let z = step_done (setup_of s) release (state_of s) (rw (open_count, ne_eqb s.marks 0 n)) in
@@ -211,18 +209,18 @@ module _ (s : Session) (rows : List ℕ) (v : Valid s rows) where
               kept = λ i l. v.kept i (omega arith);
               kept_free = λ i l. v.kept_free i (omega arith);
             };
-        same = λ x w. done_kept _ x w;
+        same = λ x w. cc;
       }
 
   -- ---- rollback
 
-  pub no_mark : (m : ℕ) → m ≡ 0 → Stepped (rollback m) s rows s rows (reply.Refused 19 0)
+  pub no_mark : (m : ℕ) → m ≡ 0 → Stepped (rollback m) s rows s rows (Err refusal.NoCheckpoint)
   unfolding first_refusal
-  no_mark m e = stepped_refused (rollback m) 19 0 (rw (eq-eqb m 0 e))
+  no_mark m e = stepped_refused (rollback m) refusal.NoCheckpoint (rw (eq-eqb m 0 e))
 
-  pub not_open : (m : ℕ) → (m ≡ 0 → ⊥) → s.marks < m → Stepped (rollback m) s rows s rows (reply.Refused 19 0)
+  pub not_open : (m : ℕ) → (m ≡ 0 → ⊥) → s.marks < m → Stepped (rollback m) s rows s rows (Err refusal.NoCheckpoint)
   unfolding first_refusal
-  not_open m n h = stepped_refused (rollback m) 19 0 (rw (open_count, ne_eqb m 0 n, lt-ltb s.marks m h))
+  not_open m n h = stepped_refused (rollback m) refusal.NoCheckpoint (rw (open_count, ne_eqb m 0 n, lt-ltb s.marks m h))
 
   module _ (m : ℕ) (some : m ≡ 0 → ⊥) (there : m ≤ s.marks) (d : kept.Kept) where
     -- the starts of the checkpoint
@@ -244,7 +242,7 @@ module _ (s : Session) (rows : List ℕ) (v : Valid s rows) where
     abbrev back : Session
     back = record { file = s.file; length = s.length; interval = s.interval; horizon = s.horizon; starts = wanted.starts; free = wanted.free; marks = m; saved = s.saved }
 
-    pub stepped_rollback : {xs' rows' : List ℕ} → Restored (file_of s) s.interval wanted.starts rows xs' rows' → Stepped (rollback m) s rows back rows' reply.Done
+    pub stepped_rollback : {xs' rows' : List ℕ} → Restored (file_of s) s.interval wanted.starts rows xs' rows' → Stepped (rollback m) s rows back rows' (Ok reply.Done)
     stepped_rollback {rows' = rows'} k =
         let z = rollback_done (setup_of s) (state_of s) m (omega arith) (omega (arith, open_count)) in
         let b : Board (file_of s) s.interval s.horizon wanted.starts rows' =
@@ -266,7 +264,7 @@ module _ (s : Session) (rows : List ℕ) (v : Valid s rows) where
                 kept = λ i l. v.kept i (omega arith);
                 kept_free = λ i l. v.kept_free i (omega arith);
               };
-          same = λ x w. done_kept _ x w;
+          same = λ x w. cc;
         }
       where
         there_is : get_or (state_of s).checkpoints (m - 1) [] ≡ starts_of (size (loop_of (file_of s))) wanted.starts

@@ -1,6 +1,6 @@
 -- What a session of the code says, and the one relation of every call. Assumes nothing.
 use Rattle.std.specs.Prelude.{◌≡◌, List, ◌++◌, map, ℕ, ◌≤◌, ◌<◌, length, get_or, take, drop, replicate}
-use Rattle.model.specs.Refusals.{Refusal, Answer, answered, refused}
+use Rattle.model.specs.Refusals.{Refusal, Answer, refused}
 use Rattle.model.specs.Loop.{size}
 use Rattle.model.specs.File.{longest, loop_of}
 use Rattle.model.specs.Table.{table_at, free_rows}
@@ -10,9 +10,10 @@ use Rattle.board.specs.Board.{starts_of, setup_as, Sane, Board}
 use Rattle.board.specs.Moves.{reply_of}
 use Rattle.session.specs.declared.Kept as kept
 use Rattle.session.specs.declared.Session.{Session}
+use Rattle.std.specs.Prelude.{Result, Ok}
 use Rattle.board.specs.declared.Reply.{Reply}
-use Rattle.refusals.specs.declared.Checked.{Checked}
-use Rattle.refusals.specs.declared.Checked.TheVariants as checked
+use Rattle.refusals.specs.Told.{answer_of}
+use Rattle.refusals.specs.declared.Refusal as code
 
 -- ---- what it says in the model
 
@@ -60,7 +61,7 @@ pub record Valid (s : Session) (rows : List ℕ) : Type 0 where
 -- what every call ensures: answer and state are the model's, the setup stays, the rows are the state's table and later rows as they were, each slot's number is the count of the first rows
 -- whose bit is clear, the session is one that calls take; and a refused call hands back the session and the rows that it was given. Left free of an accepted call: the copies past the open checkpoints, and the bytes of the store past the file's length. No call
 -- reads either, and `state_of` and `setup_of` do not see them
-pub record Stepped (c : Call) (s : Session) (rows : List ℕ) (s' : Session) (rows' : List ℕ) (r : Reply) : Type 0 where
+pub record Stepped (c : Call) (s : Session) (rows : List ℕ) (s' : Session) (rows' : List ℕ) (r : Result Reply code.Refusal) : Type 0 where
   pub reply : reply_of r ≡ (step (setup_of s) c (state_of s)).1
   pub state : state_of s' ≡ (step (setup_of s) c (state_of s)).0
   pub setup : setup_of s' ≡ setup_of s
@@ -71,20 +72,14 @@ pub record Stepped (c : Call) (s : Session) (rows : List ℕ) (s' : Session) (ro
 
 -- ---- opening
 
--- the session of nothing, which a refused opening hands out
-unfoldable pub closed_session : Session
-closed_session = record { file = replicate longest 0; length = 0; interval = 0; horizon = 0; starts = replicate 64 65535; free = replicate 24 65535; marks = 0; saved = replicate 16 blank }
-
 -- what opening says
-abbrev pub opening_of : Session → Checked → Answer Setup
-opening_of s checked.Fine = answered (setup_of s)
-opening_of s (checked.Refused n d) = refused (record { number = n; detail = d })
+abbrev pub opening_of : Result Session code.Refusal → Answer Setup
+opening_of r = answer_of setup_of r
 
--- opening with any file, numbers and table: the answer and the rows are the model's; where the session opens it is empty, with the numbers of free rows, and one that calls take, else it is that of nothing. Left free of an opened one: the 16 copies, none of which is a checkpoint's, and the bytes of the store past the file's length
-pub record Opened (f : List ℕ) (ii h : ℕ) (rows : List ℕ) (s : Session) (a : Checked) (rows' : List ℕ) : Type 0 where
-  pub says : opening_of s a ≡ open_file f ii h (length rows)
+-- opening with any file, numbers and table: the answer and the rows are the model's; a session that is opened is empty, with the numbers of free rows, and one that calls take. Left free of it: the 16 copies, none of which is open, and the stored bytes past the file's length
+pub record Opened (f : List ℕ) (ii h : ℕ) (rows : List ℕ) (r : Result Session code.Refusal) (rows' : List ℕ) : Type 0 where
+  pub says : opening_of r ≡ open_file f ii h (length rows)
   pub rows_are : rows' ≡ open_rows (open_file f ii h (length rows)) rows
-  pub state : (u : Setup) → open_file f ii h (length rows) ≡ answered u → state_of s ≡ start u
-  pub free : (u : Setup) → open_file f ii h (length rows) ≡ answered u → s.free ≡ free_rows ii rows'
-  pub valid : (u : Setup) → open_file f ii h (length rows) ≡ answered u → Valid s rows'
-  pub nothing : (x : Refusal) → open_file f ii h (length rows) ≡ refused x → s ≡ closed_session
+  pub state : (s : Session) → r ≡ Ok s → state_of s ≡ start (setup_of s)
+  pub free : (s : Session) → r ≡ Ok s → s.free ≡ free_rows ii rows'
+  pub valid : (s : Session) → r ≡ Ok s → Valid s rows'

@@ -9,9 +9,5 @@ pub fn copy_file(file: &[u8], store: &mut [u8; LONGEST])
     requires { (length file.now ≤ longest) × (length store.old ≡ longest) }
     ensures { store.new ≡ file.now ++ drop (length file.now) store.old }
 {
-    let mut i = 0;
-    while i < file.len() {
-        store[i] = file[i];
-        i = i + 1;
-    }
+    store[..file.len()].copy_from_slice(file);
 }

@@ -7,104 +7,70 @@ mod show;
 
 ghost use Rattle.session.specs.View.{Valid};
 
-use session::{After, Checked, Session};
+use session::{Call, Session};
 use show::UNTOUCHED;
-use trial::drawn::least;
 use trial::loops::put_changed;
 
-// A line of the table, as far as it is a call: its kind, 0 for an opening, and two numbers. Any kind beyond 6 is none, a comment for instance.
+// A line of the table: an opening, a call, or neither, a comment for instance.
 #[derive(Clone, Copy)]
-struct Call {
-    kind: usize,
-    op: usize,
-    start: usize,
+enum Line {
+    Opening,
+    Calling(Call),
+    Neither,
 }
 
-// Reads a line.
-fn read_call(line: &[u8]) -> Call {
-    if 0 < line.len() {
-        if line[0] != b'#' {
-            let mut q = [0usize; 3];
-            console::numbers(line, 0, &mut q);
-            return Call {
-                kind: q[0],
-                op: q[1],
-                start: q[2],
-            };
-        }
+// What a line is, by its first number, and of a call the two numbers behind it.
+fn read_line(line: &[u8]) -> Line {
+    if let [] | [b'#', ..] = line {
+        return Line::Neither;
     }
-    Call {
-        kind: 7,
-        op: 0,
-        start: 0,
+    let mut q = [0; 3];
+    console::numbers(line, 0, &mut q);
+    let [kind, op, start] = q;
+    match kind {
+        0 => Line::Opening,
+        1 => Line::Calling(Call::Place { op, start }),
+        2 => Line::Calling(Call::Force { op, start }),
+        3 => Line::Calling(Call::Remove { op }),
+        4 => Line::Calling(Call::Checkpoint),
+        5 => Line::Calling(Call::Release),
+        6 => Line::Calling(Call::Rollback { checkpoint: op }),
+        _ => Line::Neither,
     }
-}
-
-// A call on the session.
-fn step(s: Session, rows: &mut [u64], c: Call) -> After
-    requires { Valid s rows.old }
-    ensures { Valid result.session rows.new }
-{
-    if c.kind == 1 {
-        return session::place(s, rows, c.op, c.start);
-    }
-    if c.kind == 2 {
-        return session::force(s, rows, c.op, c.start);
-    }
-    if c.kind == 3 {
-        return session::remove(s, rows, c.op);
-    }
-    if c.kind == 4 {
-        return session::checkpoint(s, rows);
-    }
-    if c.kind == 5 {
-        return session::release(s, rows);
-    }
-    session::rollback(s, rows, c.op)
 }
 
 // `  place O at S`, `  force O at S`, `  remove O`, `  checkpoint`, `  release` or `  rollback M`.
 fn asked(c: Call) {
-    let k = c.kind;
-    let numbers = [c.op, c.start, 0, 0, 0];
-    match k {
-        1 => console::form(b"  place % at %", numbers),
-        2 => console::form(b"  force % at %", numbers),
-        3 => console::form(b"  remove %", numbers),
-        4 => console::form(b"  checkpoint", numbers),
-        5 => console::form(b"  release", numbers),
-        _ => console::form(b"  rollback %", numbers),
+    match c {
+        Call::Place { op, start } => console::list(b"  place % at %", &[op, start]),
+        Call::Force { op, start } => console::list(b"  force % at %", &[op, start]),
+        Call::Remove { op } => console::list(b"  remove %", &[op]),
+        Call::Checkpoint => console::list(b"  checkpoint", &[]),
+        Call::Release => console::list(b"  release", &[]),
+        Call::Rollback { checkpoint } => console::list(b"  rollback %", &[checkpoint]),
     }
 }
 
 // A call with its line.
-fn made(s: Session, rows: &mut [u64], c: Call) -> Session
-    requires { Valid s rows.old }
-    ensures { Valid result rows.new }
+fn made(s: &mut Session, rows: &mut [u64], c: Call)
+    requires { Valid s.old rows.old }
+    ensures { Valid s.new rows.new }
 {
-    if 6 < c.kind {
-        return s;
-    }
     asked(c);
-    let o = step(s, rows, c);
-    show::outcome(o, rows);
-    o.session
+    show::replied(s.make(rows, c));
+    show::state(s, rows);
 }
 
 // The calls up to the next opening.
-fn calls(table: &[u8], s: Session, rows: &mut [u64])
+fn calls(table: &[u8], mut s: Session, rows: &mut [u64])
     requires { Valid s rows.old }
 {
-    let mut t = s;
-    let mut at = 0;
-    while at < table.len() {
-        let end = console::find(table, at, b'\n');
-        let c = read_call(&table[at..end]);
-        if c.kind == 0 {
-            return;
+    for line in table.split(|byte| *byte == b'\n') {
+        match read_line(line) {
+            Line::Opening => return,
+            Line::Calling(c) => made(&mut s, rows, c),
+            Line::Neither => {}
         }
-        t = made(t, rows, c);
-        at = end + 1;
     }
 }
 
@@ -113,50 +79,65 @@ fn begun(table: &[u8], s: Session, rows: &mut [u64])
     requires { Valid s rows.old }
 {
     io::write_all(1, b": fine");
-    show::state(s, rows);
+    show::state(&s, rows);
     calls(table, s, rows);
 }
 
 // Opens a session of a file, in rows that are lent.
 fn play(file: &[u8], interval: usize, horizon: usize, table: &[u8], rows: &mut [u64]) {
-    let o = session::open(file, interval, horizon, rows);
-    let answer = o.answer;
-    match answer {
-        Checked::Fine => begun(table, o.session, rows),
-        Checked::Refused(n, detail) => show::shut(rows, n, detail),
+    match session::open(file, interval, horizon, rows) {
+        Ok(s) => begun(table, s, rows),
+        Err(refusal) => show::shut(rows, refusal),
     }
 }
 
-// The same, for the first of these bytes and with as many rows as the opening says.
-fn lent(bytes: &[u8], q: [usize; 8], table: &[u8]) {
+// The numbers of an opening: the file, the session that it asks for, and how many rows are lent.
+#[derive(Clone, Copy)]
+struct Opening {
+    file: usize,
+    length: usize,
+    at: usize,
+    byte: u8,
+    interval: usize,
+    horizon: usize,
+    rows: usize,
+}
+
+// Opens a session of the first of these bytes, with as many rows as the opening says.
+fn lent(bytes: &[u8], o: Opening, table: &[u8]) {
     let mut rows = [UNTOUCHED; 4100];
-    let r = least(q[7], 4100);
-    let n = least(q[2], bytes.len());
-    play(&bytes[0..n], q[5], q[6], table, &mut rows[0..r]);
+    let r = o.rows.min(4100);
+    let n = o.length.min(bytes.len());
+    play(&bytes[..n], o.interval, o.horizon, table, &mut rows[..r]);
 }
 
-// The same, of an array.
-fn of_array(bytes: &[u8; 2000], q: [usize; 8], table: &[u8]) {
-    lent(bytes, q, table);
-}
-
-// Reads the numbers of an opening, and writes `NAME, interval I, horizon H, table T`.
-fn heading(line: &[u8]) -> [usize; 8] {
-    let mut q = [0usize; 8];
+// Reads an opening, and writes `NAME, interval I, horizon H, table T`.
+fn heading(line: &[u8]) -> Opening {
+    let mut q = [0; 8];
     console::rest(line, console::numbers(line, 0, &mut q));
-    console::form(
+    let [_, file, length, at, byte, interval, horizon, rows] = q;
+    console::list(
         b", interval %, horizon %, table %",
-        [q[5], q[6], q[7], 0, 0],
+        &[interval, horizon, rows],
     );
-    q
+    let byte = (byte % 256) as u8;
+    Opening {
+        file,
+        length,
+        at,
+        byte,
+        interval,
+        horizon,
+        rows,
+    }
 }
 
 // An opening and its calls.
 fn scene(line: &[u8], table: &[u8]) {
-    let q = heading(line);
-    let mut bytes = [0u8; 2000];
-    put_changed(&mut bytes, q[1], q[3], (q[4] % 256) as u8);
-    of_array(&bytes, q, table);
+    let o = heading(line);
+    let mut bytes = [0; 2000];
+    put_changed(&mut bytes, o.file, o.at, o.byte);
+    lent(&bytes, o, table);
 }
 
 // The openings of the table, each with what follows its line.
@@ -164,9 +145,9 @@ fn replay(table: &[u8]) {
     let mut at = 0;
     while at < table.len() {
         let end = console::find(table, at, b'\n');
-        let c = read_call(&table[at..end]);
-        if c.kind == 0 {
-            scene(&table[at..end], &table[end..]);
+        let line = &table[at..end];
+        if let Line::Opening = read_line(line) {
+            scene(line, &table[end..]);
         }
         at = end + 1;
     }
@@ -174,11 +155,5 @@ fn replay(table: &[u8]) {
 
 fn main(rt: HostRuntime) {
     let mut table = [0u8; 16384];
-    let input = console::read_all(&mut rt.stdin(), &mut table);
-    let n = input.count;
-    if input.whole {
-        replay(&table[..n]);
-    } else {
-        io::write_all(1, b"cannot read\n");
-    }
+    console::with_input(&mut rt.stdin(), &mut table, replay);
 }

@@ -1,81 +1,67 @@
-// The book of document 01, for a drawn loop: it holds a start for each placed operation, and for each open checkpoint a copy of all starts. It takes nothing from the library.
-use crate::calls::Call;
-use std::num::{wrapping_add_usize, wrapping_sub_usize};
+// The book of document 01, for a drawn loop: it holds a start for each placed operation, and for each open checkpoint a copy of all starts. It takes nothing from the library but the form of a call.
+use session::Call;
 use trial::drawn::{Drawn, NOWHERE, field, holds, only, start_of, with_start};
 use trial::picture;
 
-// The starts of 6 operations, as a checkpoint keeps them.
-#[derive(Clone, Copy)]
-pub struct Saved {
-    pub starts: [u16; 6],
-}
-
-// The starts; how many checkpoints are open; and their copies.
+// The starts of 6 operations; how many checkpoints are open; and the starts that each of them keeps.
 #[derive(Clone, Copy)]
 pub struct Book {
     pub starts: [u16; 6],
     pub open: usize,
-    pub saved: [Saved; 16],
+    pub saved: [[u16; 6]; 16],
 }
 
-// An answer: 0 done; 1 displaced, with the mask; 2 a new checkpoint, with its number; 3 a refusal, with its number and its detail.
+// What an accepted call answers: done; the operations that were displaced, as a mask; or the number of a new checkpoint.
+#[derive(Clone, Copy, PartialEq)]
+pub enum Reply {
+    Done,
+    Displaced(usize),
+    Numbered(usize),
+}
+
+// Why a call is refused, with its detail: no such operation, one that is placed already or is not, a start beyond the horizon, a dependence that does not hold, the place of a conflict, no room for a checkpoint,
+// no such checkpoint open; or none of these, which only the session can answer.
+#[derive(Clone, Copy, PartialEq)]
+pub enum Refusal {
+    NoOperation(usize),
+    AlreadyPlaced(usize),
+    NotPlaced(usize),
+    BeyondHorizon(usize),
+    Dependence(usize),
+    Conflict(usize),
+    AllOpen,
+    NotOpen,
+    Other,
+}
+
+// A refusal by its number in document 01.
+pub fn numbered(number: usize, detail: usize) -> Refusal {
+    match (number, detail) {
+        (12, op) => Refusal::NoOperation(op),
+        (13, op) => Refusal::AlreadyPlaced(op),
+        (14, op) => Refusal::NotPlaced(op),
+        (15, op) => Refusal::BeyondHorizon(op),
+        (16, e) => Refusal::Dependence(e),
+        (17, place) => Refusal::Conflict(place),
+        (18, 0) => Refusal::AllOpen,
+        (19, 0) => Refusal::NotOpen,
+        _ => Refusal::Other,
+    }
+}
+
+// What is wrong with an operation: a dependence that does not hold, or two operations that conflict, or one with itself.
 #[derive(Clone, Copy)]
-pub struct Answer {
-    pub kind: usize,
-    pub number: usize,
-    pub detail: usize,
-}
-
-// The book after a call, and the answer.
-#[derive(Clone, Copy)]
-pub struct Noted {
-    pub book: Book,
-    pub answer: Answer,
-}
-
-// The starts without the operations that have to go, and these, each as its bit.
-#[derive(Drop)]
-struct Left {
-    starts: [u16; 6],
-    mask: usize,
+enum Fault {
+    Dependence(usize),
+    Conflict,
 }
 
 // The book of an opened session.
 pub fn empty() -> Book {
-    let none = Saved {
-        starts: [NOWHERE; 6],
-    };
     Book {
         starts: [NOWHERE; 6],
         open: 0,
-        saved: [none; 16],
-    }
-}
-
-// An answer.
-pub fn form(kind: usize, number: usize, detail: usize) -> Answer {
-    Answer {
-        kind: kind,
-        number: number,
-        detail: detail,
-    }
-}
-
-// Refusal n: the book stays as it is.
-fn refused(b: Book, n: usize, detail: usize) -> Noted {
-    Noted {
-        book: b,
-        answer: form(3, n, detail),
-    }
-}
-
-// An accepted call, with these starts from now on.
-fn accepted(b: Book, starts: [u16; 6], kind: usize, number: usize) -> Noted {
-    let mut book = b;
-    book.starts = starts;
-    Noted {
-        book: book,
-        answer: form(kind, number, 0),
+        saved: [[NOWHERE; 6]; 16],
     }
 }
 
@@ -91,183 +77,151 @@ fn set(starts: [u16; 6], op: usize, start: usize) -> [u16; 6] {
 
 // Whether a dependence has an operation at an end.
 fn touches(d: Drawn, e: usize, op: usize) -> bool {
-    (field(d, e, 0) == op) | (field(d, e, 1) == op)
+    field(d, e, 0) == op || field(d, e, 1) == op
 }
 
-// What is wrong with an operation at these starts: its first dependence that does not hold; 6 where two operations conflict, or one with itself; 7 nothing.
-fn fault(d: Drawn, starts: &[u16; 6], op: usize) -> usize {
-    let mut e = 0;
-    while e < d.m {
-        if touches(d, e, op) & !holds(d, e, starts, d.interval) {
-            return e;
-        }
-        e += 1;
+// What is wrong with an operation at these starts: its first dependence that does not hold, else a conflict.
+fn fault_of(d: Drawn, starts: &[u16; 6], op: usize) -> Option<Fault> {
+    let broken = (0..d.m).find(|e| touches(d, *e, op) && !holds(d, *e, starts, d.interval));
+    if let Some(e) = broken {
+        return Some(Fault::Dependence(e));
     }
     let painted = picture::of_starts(d, starts, d.interval);
-    if picture::twice(&painted) { 6 } else { 7 }
+    picture::twice(&painted).then_some(Fault::Conflict)
 }
 
-// The starts without the operations that have to go for op: those with which, alone, something is wrong.
-fn cleared(d: Drawn, starts: [u16; 6], op: usize) -> Left {
-    let mut out = starts;
+// The starts without the operations that have to go for op, and these, each as its bit: those with which, alone, something is wrong.
+fn cleared(d: Drawn, starts: [u16; 6], op: usize) -> ([u16; 6], usize) {
+    let mut left = starts;
     let mut mask = 0;
-    let mut bit = 1;
-    let mut p = 0;
-    while p < 6 {
+    for p in 0..6 {
         let pair = only(&starts, op, p);
-        if (p != op) & (fault(d, &pair, op) < 7) {
-            out[p] = NOWHERE;
-            mask = wrapping_add_usize(mask, bit);
+        if p != op && fault_of(d, &pair, op).is_some() {
+            left[p] = NOWHERE;
+            mask |= 1 << p;
         }
-        bit = wrapping_add_usize(bit, bit);
-        p += 1;
     }
-    Left {
-        starts: out,
-        mask: mask,
-    }
+    (left, mask)
 }
 
-// 12, 13 or 15 for an operation and a start; 0 where there is none of them.
-fn unknown(d: Drawn, starts: &[u16; 6], op: usize, at: usize) -> usize {
+// What an operation and a start are refused for before any other is looked at.
+fn unknown(d: Drawn, starts: &[u16; 6], op: usize, at: usize) -> Result<(), Refusal> {
     if d.n <= op {
-        return 12;
+        Err(Refusal::NoOperation(op))
+    } else if placed(starts, op) {
+        Err(Refusal::AlreadyPlaced(op))
+    } else if d.horizon as usize <= at {
+        Err(Refusal::BeyondHorizon(op))
+    } else {
+        Ok(())
     }
-    if placed(starts, op) {
-        return 13;
-    }
-    if d.horizon as usize <= at { 15 } else { 0 }
 }
 
 // Where op conflicts at these starts: the first place in which it meets a cell of another operation, or one of its own.
-fn place_of(d: Drawn, starts: [u16; 6], op: usize) -> usize {
-    let start = start_of(&starts, op);
-    let others = with_start(starts, op, NOWHERE);
-    picture::place(
-        picture::of_starts(d, &others, d.interval),
-        d,
-        op,
-        start,
-        d.interval,
-        true,
-    )
+fn place_of(d: Drawn, starts: &[u16; 6], op: usize) -> usize {
+    let start = start_of(starts, op);
+    let others = with_start(*starts, op, NOWHERE);
+    let painted = picture::of_starts(d, &others, d.interval);
+    picture::place(painted, d, op, start, d.interval, true)
 }
 
-// The refusal of an operation and a start, where the starts to be looked at are given; else done.
-fn tested(d: Drawn, old: &[u16; 6], starts: &[u16; 6], op: usize, at: usize) -> Answer {
-    let first = unknown(d, old, op, at);
-    if first != 0 {
-        return form(3, first, op);
+// The refusal of an operation and a start, where the starts to be looked at are given.
+fn tested(
+    d: Drawn,
+    old: &[u16; 6],
+    starts: &[u16; 6],
+    op: usize,
+    at: usize,
+) -> Result<(), Refusal> {
+    unknown(d, old, op, at)?;
+    match fault_of(d, starts, op) {
+        None => Ok(()),
+        Some(Fault::Dependence(e)) => Err(Refusal::Dependence(e)),
+        Some(Fault::Conflict) => Err(Refusal::Conflict(place_of(d, starts, op))),
     }
-    let f = fault(d, starts, op);
-    if f < 6 {
-        return form(3, 16, f);
-    }
-    if f == 6 {
-        return form(3, 17, place_of(d, *starts, op));
-    }
-    form(0, 0, 0)
 }
 
 // Whether an operation can be placed at a start. The operations that are placed do not conflict with each other.
-fn placeable(d: Drawn, b: Book, op: usize, at: usize) -> Answer {
-    let old = b.starts;
-    let starts = set(old, op, at);
-    tested(d, &old, &starts, op, at)
+fn placeable(d: Drawn, b: &Book, op: usize, at: usize) -> Result<(), Refusal> {
+    let starts = set(b.starts, op, at);
+    tested(d, &b.starts, &starts, op, at)
 }
 
 // Placing.
-fn place(d: Drawn, b: Book, op: usize, at: usize) -> Noted {
-    let a = placeable(d, b, op, at);
-    if a.kind == 3 {
-        return refused(b, a.number, a.detail);
-    }
-    let old = b.starts;
-    accepted(b, set(old, op, at), 0, 0)
+fn place(d: Drawn, b: &mut Book, op: usize, at: usize) -> Result<Reply, Refusal> {
+    placeable(d, b, op, at)?;
+    let starts = set(b.starts, op, at);
+    b.starts = starts;
+    Ok(Reply::Done)
 }
 
 // Forcing: only the operation itself has to be right at its start.
-fn force(d: Drawn, b: Book, op: usize, at: usize) -> Noted {
-    let old = b.starts;
+fn force(d: Drawn, b: &mut Book, op: usize, at: usize) -> Result<Reply, Refusal> {
     let alone = set([NOWHERE; 6], op, at);
-    let a = tested(d, &old, &alone, op, at);
-    if a.kind == 3 {
-        return refused(b, a.number, a.detail);
-    }
-    let left = cleared(d, set(old, op, at), op);
-    let starts = left.starts;
-    accepted(b, starts, 1, left.mask)
+    tested(d, &b.starts, &alone, op, at)?;
+    let (starts, mask) = cleared(d, set(b.starts, op, at), op);
+    b.starts = starts;
+    Ok(Reply::Displaced(mask))
 }
 
 // Removing.
-fn remove(d: Drawn, b: Book, op: usize) -> Noted {
-    let starts = b.starts;
+fn remove(d: Drawn, b: &mut Book, op: usize) -> Result<Reply, Refusal> {
     if d.n <= op {
-        return refused(b, 12, op);
+        return Err(Refusal::NoOperation(op));
     }
-    if !placed(&starts, op) {
-        return refused(b, 14, op);
+    if !placed(&b.starts, op) {
+        return Err(Refusal::NotPlaced(op));
     }
-    accepted(b, set(starts, op, 65535), 0, 0)
+    let starts = with_start(b.starts, op, NOWHERE);
+    b.starts = starts;
+    Ok(Reply::Done)
 }
 
 // A checkpoint.
-fn checkpoint(b: Book) -> Noted {
+fn checkpoint(b: &mut Book) -> Result<Reply, Refusal> {
     let open = b.open;
-    let starts = b.starts;
-    if open < 16 {
-        let mut book = b;
-        let copy = Saved { starts: starts };
-        book.saved[open] = copy;
-        book.open = open + 1;
-        return accepted(book, starts, 2, open + 1);
+    if 16 <= open {
+        return Err(Refusal::AllOpen);
     }
-    refused(b, 18, 0)
+    let starts = b.starts;
+    b.saved[open] = starts;
+    b.open = open + 1;
+    Ok(Reply::Numbered(open + 1))
 }
 
 // Releasing the newest checkpoint.
-fn release(b: Book) -> Noted {
-    let open = b.open;
-    if open == 0 {
-        return refused(b, 19, 0);
+fn release(b: &mut Book) -> Result<Reply, Refusal> {
+    if b.open == 0 {
+        return Err(Refusal::NotOpen);
     }
-    let starts = b.starts;
-    let mut book = b;
-    book.open = open - 1;
-    accepted(book, starts, 0, 0)
+    b.open -= 1;
+    Ok(Reply::Done)
 }
 
 // Going back to checkpoint m.
-fn rollback(b: Book, m: usize) -> Noted {
-    let k = wrapping_sub_usize(m, 1);
-    if b.open < m {
-        return refused(b, 19, 0);
+fn rollback(b: &mut Book, m: usize) -> Result<Reply, Refusal> {
+    if m == 0 || b.open.min(16) < m {
+        return Err(Refusal::NotOpen);
     }
-    if k < 16 {
-        let copy = b.saved[k];
-        let starts = copy.starts;
-        let mut book = b;
-        book.open = m;
-        return accepted(book, starts, 0, 0);
-    }
-    refused(b, 19, 0)
+    let starts = b.saved[m - 1];
+    b.starts = starts;
+    b.open = m;
+    Ok(Reply::Done)
 }
 
-// A call on the book.
-pub fn turn(d: Drawn, b: Book, c: Call) -> Noted {
-    let kind = c.kind;
-    match kind {
-        0 => place(d, b, c.op, c.at),
-        1 => force(d, b, c.op, c.at),
-        2 => remove(d, b, c.op),
-        3 => checkpoint(b),
-        4 => release(b),
-        _ => rollback(b, c.op),
+// A call on the book, which stays as it is where the call is refused.
+pub fn turn(d: Drawn, b: &mut Book, c: Call) -> Result<Reply, Refusal> {
+    match c {
+        Call::Place { op, start } => place(d, b, op, start),
+        Call::Force { op, start } => force(d, b, op, start),
+        Call::Remove { op } => remove(d, b, op),
+        Call::Checkpoint => checkpoint(b),
+        Call::Release => release(b),
+        Call::Rollback { checkpoint } => rollback(b, checkpoint),
     }
 }
 
 // Whether an operation can be placed at a start.
-pub fn fits(d: Drawn, b: Book, op: usize, at: usize) -> bool {
-    let a = placeable(d, b, op, at);
-    a.kind == 0
+pub fn fits(d: Drawn, b: &Book, op: usize, at: usize) -> bool {
+    placeable(d, b, op, at).is_ok()
 }

@@ -1,16 +1,17 @@
 -- One file more in the sums: what is known of a schedule that is found, the 24 numbers raised one after the other, and the sums over a list with one file more. Assumes nothing.
 use mathlib.Core.Path.{◌≡◌, refl, sym, ap, ◌∙◌}
-use mathlib.Core.Bool.{Bool, true, false, cond}
+use mathlib.Core.Bool.{Bool, cond}
 use mathlib.Core.List.{List, [], ◌∷◌, ◌++◌}
 use Prim.Native.Nat.{ℕ, zero, suc, ◌+◌, ◌*◌, ◌≤◌, ◌<◌, max}
-use native.Mathlib.Decide.{ℕ_discrete}
 use native.Mathlib.Omega.{arith}
 use lib.Dec.{eqb}
-use lib.ListN.{length, get_or, set, length-set}
-use lib.Seq.{get_or-set_same, get_or-set_other}
+use lib.ListN.{length, get_or, set, take, length-set}
+use Rattle.std.specs.Prelude.{Result, Ok, Err}
+use Rattle.std.proofs.lemmas.Bool.Decides.{nat_tests}
+use Rattle.std.proofs.lemmas.Grind.{common_steps}
 use Rattle.model.specs.Lists.{up_from, count_if, sum_of}
 use Rattle.model.specs.Refusals.{Answer, answered, refused}
-use Rattle.model.specs.Loop.{Loop, all_uses}
+use Rattle.model.specs.Loop.{Loop, size, all_uses}
 use Rattle.model.specs.File.{loop_of, Accepted}
 use Rattle.model.specs.Legality.{placed}
 use Rattle.model.specs.Table.{covered_at}
@@ -25,12 +26,12 @@ use Rattle.model.proofs.Answers.{search_accepted}
 use Rattle.model.proofs.Sheet.{total_more, covered_total}
 use Rattle.lower_bounds.proofs.AllUses.{total_all, total_most}
 use Rattle.search.specs.Answer.{answer_of, Searches}
-use Rattle.search.specs.declared.Searched.{Searched}
-use Rattle.search.specs.declared.Searched.TheVariants as searched
 use Rattle.search.specs.declared.Solution.{Solution}
+use Rattle.search.specs.declared.Unsolved.{Unsolved}
+use Rattle.search.specs.declared.Unsolved.TheVariants.{NoSchedule, BudgetSpent, Refused}
 use Rattle.search.proofs.Requests.{bound_positive}
 use Rattle.search.proofs.Sweeps.{found_is}
-use Rattle.sheet.specs.Sums.{sums_of, told, bound_of, Small, Plus, Counted, Adds}
+use Rattle.sheet.specs.Sums.{sums_of, bound_of, Small, Plus, Counted, Adds}
 use Rattle.sheet.specs.declared.sums.Sums.{Sums}
 
 -- ---- a schedule that is found
@@ -43,8 +44,8 @@ pub record Known (f : List ℕ) (q : Request) (s : Schedule) : Type 0 where
   pub covered : (k : ℕ) → covered_on k (loop_of f) s ≡ total_on (loop_of f) k
 
 pub known : (f : List ℕ) (q : Request) (list rows : ℕ) (s : Schedule) → SearchIs f q list rows (answered (found s)) → Known f q s
-known f q list rows s (by_check r e p) = let z : ◌≡◌ {A = ℕ} 0 1 = cc in absurd (omega arith)
-known f q list rows s (by_bound r e is p) = let z : ◌≡◌ {A = ℕ} 0 1 = cc in absurd (omega arith)
+known f q list rows s (by_check r e p) = absurd (cc)
+known f q list rows s (by_bound r e is p) = absurd (cc)
 known f q list rows s (by_sweep b e is p) =
     let all : Accepted f = search_accepted f q list rows e in
     let ok = accepted_ok f all in
@@ -52,7 +53,7 @@ known f q list rows s (by_sweep b e is p) =
     record {
       accepted = all;
       capped = w.capped;
-      covered = λ k. covered_total (loop_of f) s k ok (omega (arith, w.within, bound_positive (loop_of f) b.resource b.recurrence is)) w.listed.0 w.is_legal;
+      covered = λ k. covered_total (loop_of f) s k ok (omega (arith, w.within, bound_positive (loop_of f) (record { resource = b.resource; recurrence = b.recurrence }) is)) w.listed.0 w.is_legal;
     }
 
 -- the durations on a slot are few
@@ -61,14 +62,6 @@ total_few f all k =
     let l = loop_of f in
     let ok = accepted_ok f all in
     omega (arith, total_all l k, total_most l ok k (length (all_uses l)) (omega arith), all_few l ok)
-
--- a file counts once at most among those at the larger bound
-pub bound_few : (s : Solution) → bound_of s ≤ 1
-bound_few s = pick (eqb s.interval (max s.resource s.recurrence))
-  where
-    pick : (b : Bool) → cond b 1 0 ≤ 1
-    pick true = omega arith
-    pick false = omega arith
 
 -- ---- the 24 numbers, raised one after the other
 
@@ -85,18 +78,15 @@ pub raised_next : (g : ℕ → ℕ) (k : ℕ) (before after : List ℕ) (v : ℕ
     → Raised g (k + 1) before (set after k v)
 raised_next g k before after v l r e = record {
   long = length-set after k v ∙ r.long;
-  done = λ j m. pick j m (ℕ_discrete j k);
-  left = λ j m. get_or-set_other after k j v 0 (λ q. omega arith) ∙ r.left j (omega arith);
+  done = λ j m. grind (arith, common_steps);
+  left = λ j m. grind (arith, common_steps);
 }
-  where
-    pick : (j : ℕ) → j < k + 1 → Dec (j ≡ k) → get_or (set after k v) j 0 ≡ get_or before j 0 + g (suc j)
-    pick j m (yes q) =
-        ap (λ (i : ℕ). get_or (set after k v) i 0) q ∙ get_or-set_same after k v 0 (omega (arith, r.long)) ∙ e ∙ ap (λ (n : ℕ). n + g (suc k)) (r.left k (omega arith))
-        ∙ ap (λ (i : ℕ). get_or before i 0 + g (suc i)) (sym q)
-    pick j m (no q) = get_or-set_other after k j v 0 q ∙ r.done j (omega arith)
 
 pub raised_all : (g : ℕ → ℕ) (before after : List ℕ) → Raised g 24 before after → Plus g before after
 raised_all g before after r = record { long = r.long; at = r.done }
+
+-- what a turn of the loop over them asks
+pub ruleset raises = (total_few, raised_none, raised_next, raised_all)
 
 -- ---- the sums over one file more
 
@@ -132,47 +122,38 @@ module _ (items : List Item) (x : Item) where
 
 -- ---- what the search answers
 
--- the code's answer, with the starts that the list then holds, is told as it is
-pub told_back : (l : Loop) (list : List ℕ) (r : Searched) → r ≡ told (answer_of l list r)
-told_back l list (searched.Found s) = refl
-told_back l list (searched.Ended n d k) = refl
-told_back l list (searched.Refused n d) = refl
+-- an end without a schedule counts in no total
+none_measured : (f list : List ℕ) (u : Unsolved) (m : Measure) → measured m (f, answer_of (loop_of f) list (Err u)) ≡ 0
+none_measured f list (NoSchedule cap k) m = refl
+none_measured f list (BudgetSpent ii k) m = refl
+none_measured f list (Refused r) m = refl
 
 -- a search with 64 starts lent, as it is asked for each file
-module _ (f list rows : List ℕ) (r : Searched) (list' rows' : List ℕ) (long : length list ≡ 64) (w : Searches f 4096 256 1000000 list rows r list' rows') where
+module _ {f list rows : List ℕ} {r : Result Solution Unsolved} {list' rows' : List ℕ} (long : length list ≡ 64) (w : Searches f 4096 256 1000000 list rows r list' rows') where
   is_search : SearchIs f sheet_request 64 (length rows) (answer_of (loop_of f) list' r)
   is_search = rw long at w.says
 
-  -- where it found a schedule, the file is accepted and the interval in range
-  pub found_accepted : (s : Solution) → r ≡ searched.Found s → Accepted f × (s.interval ≤ 4096)
-  found_accepted s e = let w = known f sheet_request 64 (length rows) _ (rw e at is_search) in (w.accepted, w.capped)
+  -- the sums with what it answers
+  adds : (t u : Sums) → ((items : List Item) → t ≡ sums_of items → u ≡ sums_of (items ++ ((f, answer_of (loop_of f) list' r) ∷ []))) → Adds t f rows (record { answer = r; sums = u }) rows'
+  adds t u h = record { answer = answer_of (loop_of f) list' r; is = is_search; starts = list'; says = refl; sums_are = h; rows_are = w.rows_are }
+
+-- where it found a schedule
+module _ {f list rows : List ℕ} {s : Solution} {list' rows' : List ℕ} (long : length list ≡ 64) (w : Searches f 4096 256 1000000 list rows (Ok s) list' rows') where
+  is_known : Known f sheet_request (record { ii = s.interval; bounds = record { resource = s.resource; recurrence = s.recurrence }; stages = s.stages; count = s.probes; starts = take (size (loop_of f)) list' })
+  is_known = known f sheet_request 64 (length rows) _ (is_search long w)
+
+  -- the file is accepted and the interval in range
+  pub found_accepted : Accepted f × (s.interval ≤ 4096)
+  found_accepted = (is_known.accepted, is_known.capped)
 
   -- and it is counted in
-  pub adds_found : (s : Solution) → r ≡ searched.Found s → (t u : Sums) → Counted (total_on (loop_of f)) s t u → Adds t f rows (record { answer = searched.Found s; sums = u }) rows'
-  adds_found s e t u c = record {
-    answer = answer_of (loop_of f) list' (searched.Found s);
-    is = rw e at is_search;
-    says = refl;
-    sums_are = λ items q.
-        sums_counted items (f, answer_of (loop_of f) list' (searched.Found s)) (total_on (loop_of f)) s t u q c refl refl refl (known f sheet_request 64 (length rows) _ (rw e at is_search)).covered;
-    rows_are = rw e at w.rows_are;
-  }
+  pub adds_found : (t u : Sums) → Counted (total_on (loop_of f)) s t u → Adds t f rows (record { answer = Ok s; sums = u }) rows'
+  adds_found t u c = adds long w t u (λ items q. sums_counted items (f, answer_of (loop_of f) list' (Ok s)) (total_on (loop_of f)) s t u q c refl refl refl is_known.covered)
 
-  -- where it found none, nothing changes
-  adds_none : ((m : Measure) → measured m (f, answer_of (loop_of f) list' r) ≡ 0) → (t : Sums) → Adds t f rows (record { answer = r; sums = t }) rows'
-  adds_none h t = record {
-    answer = answer_of (loop_of f) list' r;
-    is = is_search;
-    says = told_back (loop_of f) list' r;
-    sums_are = λ items q. q ∙ sums_same items (f, answer_of (loop_of f) list' r) h;
-    rows_are = w.rows_are;
-  }
-
-  pub adds_ended : {n d k : ℕ} → r ≡ searched.Ended n d k → (t : Sums) → Adds t f rows (record { answer = r; sums = t }) rows'
-  adds_ended e t = adds_none (λ m. ap (λ (x : Searched). measured m (f, answer_of (loop_of f) list' x)) e) t
-
-  pub adds_refused : {n d : ℕ} → r ≡ searched.Refused n d → (t : Sums) → Adds t f rows (record { answer = r; sums = t }) rows'
-  adds_refused e t = adds_none (λ m. ap (λ (x : Searched). measured m (f, answer_of (loop_of f) list' x)) e) t
+-- where it found none, nothing changes
+pub adds_none : {f list rows : List ℕ} {r : Result Solution Unsolved} {list' rows' : List ℕ} → length list ≡ 64 → Searches f 4096 256 1000000 list rows r list' rows' → (u : Unsolved) → r ≡ Err u → (t : Sums)
+    → Adds t f rows (record { answer = r; sums = t }) rows'
+adds_none {f} {list' = list'} long w u e t = adds long w t t (rw e (λ items q. q ∙ sums_same items (f, answer_of (loop_of f) list' (Err u)) (none_measured f list' u)))
 
 -- ---- small sums
 
@@ -192,11 +173,11 @@ total_small m h {rows} (one_more {f} {a = a} is rest) = omega (arith, measures_f
 count_most : (p : ℕ → Bool) (a n : ℕ) → count_if p (up_from a n) ≤ n
 unfolding count_if up_from
 count_most p a zero = omega arith
-count_most p a (suc n) = pick (p a) (count_most p (suc a) n)
-  where
-    pick : (b : Bool) → count_if p (up_from (suc a) n) ≤ n → cond b 1 0 + count_if p (up_from (suc a) n) ≤ suc n
-    pick true h = omega arith
-    pick false h = omega arith
+count_most p a (suc n) = grind (arith, nat_tests, count_most p (suc a) n)
+
+-- a file counts once at most among those at the larger bound
+flag_small : (b : Bool) → cond b 1 0 ≤ 4096
+flag_small b = grind (arith, nat_tests)
 
 -- the sums over at most 32 files are small
 pub small : {rows : ℕ} {fs : List (List ℕ)} {items : List Item} → Answers rows fs items → length items ≤ 32 → Small (sums_of items)
@@ -214,7 +195,3 @@ small {items = items} w few = record {
     );
   };
 }
-  where
-    flag_small : (b : Bool) → cond b 1 0 ≤ 4096
-    flag_small true = omega arith
-    flag_small false = omega arith

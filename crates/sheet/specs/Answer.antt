@@ -1,36 +1,21 @@
--- What `sheet` answers and leaves. Assumes nothing.
-use Rattle.std.specs.Prelude.{◌≡◌, ℕ, ◌*◌, length}
+-- What `total` answers and leaves. Assumes nothing.
+use Rattle.std.specs.Prelude.{◌≡◌, ℕ, ◌*◌, length, Result}
 use mathlib.Core.List.{List, [], ◌∷◌, ◌++◌, flat_map}
 use Rattle.model.specs.Lists.{written}
 use Rattle.model.specs.Refusals.{Answer, answered, refused}
 use Rattle.model.specs.Search.{Outcome, SearchIs, rows_after}
 use Rattle.model.specs.Bundle.{files}
 use Rattle.model.specs.Sheet.{sheet_request, Item, Answers, totals_of, SheetIs, rows_through}
-use Rattle.refusals.specs.declared.Checked.{Checked}
-use Rattle.refusals.specs.declared.Checked.TheVariants as checked
-use Rattle.bundle.specs.declared.Bundled.{Bundled}
-use Rattle.bundle.specs.declared.Bundled.TheVariants as bundled
-use Rattle.sheet.specs.Sums.{sums_of, told}
-use Rattle.sheet.specs.Lines.{line_of, fraction_words}
+use Rattle.refusals.specs.Told.{answer_of}
+use Rattle.refusals.specs.declared.Refusal.{Refusal}
+use Rattle.sheet.specs.Sums.{sums_of}
+use Rattle.sheet.specs.Lines.{told_line, fraction_words}
 use Rattle.sheet.specs.declared.sums.Sums.{Sums}
 use Rattle.sheet.specs.declared.Totals.{Totals}
-use Rattle.sheet.specs.declared.Sheet.{Sheet}
-use Rattle.sheet.specs.declared.Sheet.TheVariants as sheet
 
--- what `sheet` says
-abbrev pub sheet_of : Sheet → Answer Totals
-sheet_of (sheet.Made t) = answered t
-sheet_of (sheet.Refused n d) = refused (record { number = n; detail = d })
-
--- a reading's refusal as the sheet's
-abbrev pub as_unread : Bundled → Sheet
-as_unread (bundled.Files n) = sheet.Refused 0 0
-as_unread (bundled.Refused n d) = sheet.Refused n d
-
--- a check's
-abbrev pub as_refused : Checked → Sheet
-as_refused checked.Fine = sheet.Refused 0 0
-as_refused (checked.Refused n d) = sheet.Refused n d
+-- what `total` says
+abbrev pub sheet_of : Result Totals Refusal → Answer Totals
+sheet_of r = answer_of (λ t. t) r
 
 -- ---- what the model's sheet comes to
 
@@ -42,7 +27,7 @@ totals_in (refused r) = refused r
 
 -- the lines of files, one after the other
 unfoldable pub line_words : List Item → List ℕ
-line_words items = flat_map (λ x. line_of (told x.1)) items
+line_words items = flat_map (λ x. told_line x.1) items
 
 -- the array of lines afterwards: a line for each file, and what stood behind them
 abbrev pub lines_after : Answer (List Item) → List ℕ → List ℕ
@@ -66,7 +51,7 @@ pub record AddsLine (s : Sums) (i : ℕ) (f lines rows : List ℕ) (r : Sums) (l
   pub answer : Answer Outcome
   pub is : SearchIs f sheet_request 64 (length rows) answer
   pub sums_are : (items : List Item) → s ≡ sums_of items → r ≡ sums_of (items ++ ((f, answer) ∷ []))
-  pub lines_are : lines' ≡ written (8 * i) (line_of (told answer)) lines
+  pub lines_are : lines' ≡ written (8 * i) (told_line answer) lines
   pub rows_are : rows' ≡ rows_after answer rows
 
 -- a bundle's files, one after the other: their answers, the sums over them, and the table that their searches leave
@@ -82,7 +67,7 @@ pub record Walked (b lines rows : List ℕ) (r : Sums) (lines' rows' : List ℕ)
   pub lines_are : lines' ≡ written 0 (line_words summed.items) lines
 
 -- the answer r to any bytes, with arrays and a table that end as lines', slots' and rows': all are what the model's sheet says
-pub record Sheets (b lines slots rows : List ℕ) (r : Sheet) (lines' slots' rows' : List ℕ) : Type 0 where
+pub record Sheets (b lines slots rows : List ℕ) (r : Result Totals Refusal) (lines' slots' rows' : List ℕ) : Type 0 where
   pub answer : Answer (List Item)
   pub is : SheetIs b (length rows) answer
   pub says : sheet_of r ≡ totals_in answer

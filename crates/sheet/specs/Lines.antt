@@ -1,19 +1,27 @@
 -- Lines and fractions as numbers. Assumes nothing.
 use mathlib.Core.List.{List, [], ◌∷◌, flat_map}
-use Rattle.std.specs.Prelude.{ℕ, get_or}
+use Rattle.std.specs.Prelude.{ℕ, get_or, Result, Ok, Err}
 use Rattle.model.specs.Lists.{up_from}
+use Rattle.model.specs.Refusals.{Answer, answered, refused}
+use Rattle.model.specs.Search.{Outcome, found, ended}
 use Rattle.model.specs.Fractions as model
 use Rattle.model.specs.Fractions.{lowest_of}
-use Rattle.search.specs.declared.Searched.{Searched}
-use Rattle.search.specs.declared.Searched.TheVariants as searched
+use Rattle.search.specs.Unsolved.{ended_number, ended_detail, ended_probes}
+use Rattle.search.specs.declared.Solution.{Solution}
+use Rattle.search.specs.declared.Unsolved.{Unsolved}
 use Rattle.sheet.specs.declared.fraction.Fraction.{Fraction}
 use Rattle.sheet.specs.declared.sums.Sums.{Sums}
 
 -- a file's line: 0 or the refusal's number, its detail, interval, resource bound, recurrence bound, stages, probes, 0. Of the refusals only 10 and 11 come with probes
-abbrev pub line_of : Searched → List ℕ
-line_of (searched.Found s) = 0 ∷ 0 ∷ s.interval ∷ s.resource ∷ s.recurrence ∷ s.stages ∷ s.probes ∷ 0 ∷ []
-line_of (searched.Ended n d k) = n ∷ d ∷ 0 ∷ 0 ∷ 0 ∷ 0 ∷ k ∷ 0 ∷ []
-line_of (searched.Refused n d) = n ∷ d ∷ 0 ∷ 0 ∷ 0 ∷ 0 ∷ 0 ∷ 0 ∷ []
+abbrev pub told_line : Answer Outcome → List ℕ
+told_line (answered (found s)) = 0 ∷ 0 ∷ s.ii ∷ s.bounds.resource ∷ s.bounds.recurrence ∷ s.stages ∷ s.count ∷ 0 ∷ []
+told_line (answered (ended r count)) = r.number ∷ r.detail ∷ 0 ∷ 0 ∷ 0 ∷ 0 ∷ count ∷ 0 ∷ []
+told_line (refused r) = r.number ∷ r.detail ∷ 0 ∷ 0 ∷ 0 ∷ 0 ∷ 0 ∷ 0 ∷ []
+
+-- the same of what the code's search answers
+abbrev pub line_of : Result Solution Unsolved → List ℕ
+line_of (Ok s) = 0 ∷ 0 ∷ s.interval ∷ s.resource ∷ s.recurrence ∷ s.stages ∷ s.probes ∷ 0 ∷ []
+line_of (Err u) = ended_number u ∷ ended_detail u ∷ 0 ∷ 0 ∷ 0 ∷ 0 ∷ ended_probes u ∷ 0 ∷ []
 
 -- the model's fraction
 abbrev pub fraction_of : Fraction → model.Fraction

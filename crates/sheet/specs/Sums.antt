@@ -1,11 +1,11 @@
 -- The sums over files, a file at a time. Assumes nothing.
 use Rattle.std.specs.Prelude.{◌≡◌, cond, List, [], ◌∷◌, ◌++◌, map, ℕ, suc, ◌+◌, ◌<◌, max, eqb, length, get_or}
 use Rattle.model.specs.Lists.{up_from}
-use Rattle.model.specs.Refusals.{Answer, answered, refused}
-use Rattle.model.specs.Search.{Outcome, found, ended, SearchIs, rows_after}
+use Rattle.model.specs.Refusals.{Answer}
+use Rattle.model.specs.File.{loop_of}
+use Rattle.model.specs.Search.{Outcome, SearchIs, rows_after}
 use Rattle.model.specs.Sheet.{sheet_request, Item, total_of, each, at_bound_count, interval, covered_on}
-use Rattle.search.specs.declared.Searched.{Searched}
-use Rattle.search.specs.declared.Searched.TheVariants as searched
+use Rattle.search.specs.Answer.{answer_of}
 use Rattle.search.specs.declared.Solution.{Solution}
 use Rattle.sheet.specs.declared.sums.Sums.{Sums}
 use Rattle.sheet.specs.declared.sums.Added.{Added}
@@ -18,13 +18,6 @@ sums_of items = record {
   intervals = total_of interval items;
   used = map (λ k. total_of (covered_on k) items) (up_from 1 24);
 }
-
--- the search's answer as the code gives it, without the starts
-abbrev pub told : Answer Outcome → Searched
-told (answered (found s)) =
-    searched.Found (record { interval = s.ii; resource = s.bounds.resource; recurrence = s.bounds.recurrence; stages = s.stages; probes = s.count })
-told (answered (ended r count)) = searched.Ended r.number r.detail count
-told (refused r) = searched.Refused r.number r.detail
 
 -- 1 where the interval is the larger bound, else 0
 abbrev pub bound_of : Solution → ℕ
@@ -58,10 +51,11 @@ pub record Counted (g : ℕ → ℕ) (s : Solution) (before after : Sums) : Type
   pub intervals : after.intervals ≡ before.intervals + s.interval
   pub used : Plus g before.used after.used
 
--- a file's answer, and the sums with it: the answer is the search's, the sums over some files become those over these and this one, and the table is as that search leaves it
+-- a file's answer, and the sums with it: the answer is the search's, which the code's says but for the starts, the sums over some files become those over these and this one, and the table is as that search leaves it
 pub record Adds (s : Sums) (f rows : List ℕ) (r : Added) (rows' : List ℕ) : Type 0 where
   pub answer : Answer Outcome
   pub is : SearchIs f sheet_request 64 (length rows) answer
-  pub says : r.answer ≡ told answer
+  pub starts : List ℕ
+  pub says : answer_of (loop_of f) starts r.answer ≡ answer
   pub sums_are : (items : List Item) → s ≡ sums_of items → r.sums ≡ sums_of (items ++ ((f, answer) ∷ []))
   pub rows_are : rows' ≡ rows_after answer rows

@@ -7,7 +7,7 @@ ghost use Rattle.sheet.specs.Lines.{fraction_of, slot_words};
 use crate::sums::Sums;
 
 // A fraction.
-#[derive(Clone, Copy)]
+#[derive(Clone, Copy, Debug, PartialEq, Eq)]
 pub struct Fraction {
     pub num: usize,
     pub den: usize,
@@ -21,36 +21,35 @@ fn gcd(a: usize, b: usize) -> usize
     let mut x = a;
     let mut y = b;
     while 0 < y {
-        let left = x % y;
-        x = y;
-        y = left;
+        (x, y) = (y, x % y);
     }
     x
 }
 
 // `used` over `cells` in lowest terms; 0/1 where there are no cells.
+#[tactic(auto, using(model::proofs::Fractions::lowest_none, model::proofs::Fractions::lowest_some))]
 pub fn lowest(used: usize, cells: usize) -> Fraction
     ensures { fraction_of result ≡ lowest_of used cells }
 {
-    if cells < 1 {
-        return Fraction { num: 0, den: 1 };
-    }
-    let g = gcd(used, cells);
-    Fraction {
-        num: used / g,
-        den: cells / g,
+    if cells == 0 {
+        Fraction { num: 0, den: 1 }
+    } else {
+        let g = gcd(used, cells);
+        Fraction {
+            num: used / g,
+            den: cells / g,
+        }
     }
 }
 
 // How much each slot is used, slot after slot: numerator and denominator in turn.
+#[tactic(auto, using(crate::proofs::Lines::slots_none, crate::proofs::Lines::slots_more))]
 pub fn write_slots(sums: Sums, slots: &mut [u64; 48])
     ensures { slots.new ≡ written 0 (slot_words sums 24) slots.old }
 {
-    let mut k = 0;
-    while k < 24 {
-        let f = lowest(sums.used[k], sums.intervals);
+    for (k, used) in sums.used.iter().enumerate() {
+        let f = lowest(*used, sums.intervals);
         slots[2 * k] = f.num as u64;
         slots[2 * k + 1] = f.den as u64;
-        k = k + 1;
     }
 }

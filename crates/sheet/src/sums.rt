@@ -4,11 +4,11 @@ ghost use Rattle.model.specs.File.{loop_of, Accepted};
 ghost use Rattle.model.specs.Bounds.{total_on};
 ghost use Rattle.sheet.specs.Sums.{sums_of, Small, bound_of, Each, Plus, Counted, Adds};
 
-use lower_bounds::{larger, total_on};
-use search::{Searched, Solution};
+use lower_bounds::total_on;
+use search::{Solution, Unsolved};
 
 // The sums over the scheduled files: how many, how many at the larger bound, their intervals, and for slots 1 to 24 the durations on it, which are its covered cells. All cells of a slot are as many as the intervals come to.
-#[derive(Clone, Copy)]
+#[derive(Clone, Copy, Debug, PartialEq, Eq)]
 pub struct Sums {
     pub scheduled: usize,
     pub bound: usize,
@@ -19,11 +19,12 @@ pub struct Sums {
 // What the search answers for a file, and the sums with it.
 #[derive(Clone, Copy)]
 pub struct Added {
-    pub answer: Searched,
+    pub answer: Result<Solution, Unsolved>,
     pub sums: Sums,
 }
 
 // Over no file.
+#[tactic(auto, unfolding(model::specs::Sheet::total_of, model::specs::Lists::sum_of, model::specs::Lists::up_from))]
 pub fn none() -> Sums
     ensures { result ≡ sums_of [] }
 {
@@ -31,7 +32,7 @@ pub fn none() -> Sums
         scheduled: 0,
         bound: 0,
         intervals: 0,
-        used: [0usize; 24],
+        used: [0; 24],
     }
 }
 
@@ -39,21 +40,17 @@ pub fn none() -> Sums
 fn at_bound(s: Solution) -> usize
     ensures { result ≡ bound_of s }
 {
-    if s.interval == larger(s.resource, s.recurrence) {
-        return 1;
-    }
-    0
+    usize::from(s.interval == s.resource.max(s.recurrence))
 }
 
 // Adds to each slot's number the durations on it.
+#[tactic(auto, using(crate::proofs::Additions::raises))]
 fn add_used(file: &[u8], used: &mut [usize; 24])
     requires { Accepted file.now × Each used.old }
     ensures { Plus (total_on (loop_of file.now)) used.old used.new }
 {
-    let mut k = 0;
-    while k < 24 {
-        used[k] = used[k] + total_on(file, k + 1);
-        k = k + 1;
+    for (k, sum) in used.iter_mut().enumerate() {
+        *sum += total_on(file, k + 1);
     }
 }
 
@@ -68,7 +65,7 @@ fn with_schedule(sums: Sums, file: &[u8], s: Solution) -> Sums
         scheduled: sums.scheduled + 1,
         bound: sums.bound + at_bound(s),
         intervals: sums.intervals + s.interval,
-        used: used,
+        used,
     }
 }
 
@@ -79,18 +76,9 @@ pub fn add_file(sums: Sums, file: &[u8], rows: &mut [u64]) -> Added
 {
     let mut starts = [0u16; 64];
     let answer = search::search(file, 4096, 256, 1000000, &mut starts, rows);
-    match answer {
-        Searched::Found(s) => Added {
-            answer: answer,
-            sums: with_schedule(sums, file, s),
-        },
-        Searched::Ended(_, _, _) => Added {
-            answer: answer,
-            sums: sums,
-        },
-        Searched::Refused(_, _) => Added {
-            answer: answer,
-            sums: sums,
-        },
-    }
+    let sums = match answer {
+        Ok(s) => with_schedule(sums, file, s),
+        Err(_) => sums,
+    };
+    Added { answer, sums }
 }

@@ -1,5 +1,5 @@
 -- Lists of starts by their number, and which of them are legal. Assumes nothing.
-use Rattle.std.specs.Prelude.{ℕ, zero, suc, ◌/◌, ◌%◌, min, max, Bool, true, false, cond, not, ◌&&◌, List, replicate, nat_lt, slice_set}
+use Rattle.std.specs.Prelude.{Option, Some, None, ℕ, zero, suc, ◌/◌, ◌%◌, min, max, Bool, true, false, cond, not, ◌&&◌, List, replicate, nat_lt, slice_set}
 use Rattle.trial.specs.declared.drawn.Drawn.{Drawn}
 use Rattle.trial.specs.declared.lists.Listed.{Listed}
 use Rattle.trial.specs.Drawn.{holds_in}
@@ -31,7 +31,7 @@ legal_as d w interval = cond (nat_lt 0 w.left) false (fits_in d w.starts interva
 unfoldable pub legal_in : Drawn → (code k interval : ℕ) → Bool
 legal_in d code k interval = legal_as d (word_of code k d.horizon) interval
 
--- the first of count numbers, from code on, whose list of all starts is legal; 2 ^ 64 - 1 where none is
-unfoldable pub first_from : Drawn → (interval code count : ℕ) → ℕ
-first_from d interval code zero = 18446744073709551615
-first_from d interval code (suc count) = cond (legal_in d code d.n interval) code (first_from d interval (suc code) count)
+-- the first of count numbers, from code on, whose list of all starts is legal
+unfoldable pub first_from : Drawn → (interval code count : ℕ) → Option ℕ
+first_from d interval code zero = None
+first_from d interval code (suc count) = cond (legal_in d code d.n interval) (Some code) (first_from d interval (suc code) count)

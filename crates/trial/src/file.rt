@@ -2,7 +2,7 @@
 ghost use Rattle.std.specs.Prelude.{◌≡◌, ◌%◌, ◌≤◌, take};
 ghost use Rattle.trial.specs.Loops.{changed};
 
-use crate::drawn::{Drawn, byte, duration, field, latency, least};
+use crate::drawn::{Drawn, byte, duration, field, latency};
 
 // The head and the entries, without the offsets and lengths that a loop decides on.
 const HEAD: [u8; 26] = *b"\x01\x03OPER\x1a\x00\x00\x00USES\x00\x00\x00\x00DEPS\x00\x00\x00\x00";
@@ -20,11 +20,7 @@ pub fn put(file: &mut [u8; 2000], at: usize, v: usize)
 fn put_head(file: &mut [u8; 2000], ops: usize, uses: usize, deps: usize)
     requires { (26 ≤ ops) × (ops ≤ uses) × (uses ≤ deps) }
 {
-    let mut i = 0;
-    while i < 26 {
-        file[i] = HEAD[i];
-        i += 1;
-    }
+    file[..26].copy_from_slice(&HEAD);
     put(file, 8, ops - 26);
     put(file, 14, ops);
     put(file, 16, uses - ops);
@@ -34,20 +30,16 @@ fn put_head(file: &mut [u8; 2000], ops: usize, uses: usize, deps: usize)
 
 // The number of slots that an operation uses.
 fn use_count(d: Drawn, op: usize) -> usize {
-    let a = least(duration(d, op, 0), 1);
-    let b = least(duration(d, op, 1), 1);
-    a + b + least(duration(d, op, 2), 1)
+    (0..3).filter(|slot| duration(d, op, *slot) > 0).count()
 }
 
 // n operations.
 fn put_operations(file: &mut [u8; 2000], d: Drawn, n: usize)
     requires { n ≤ 6 }
 {
-    let mut op = 0;
-    while op < n {
+    for op in 0..n {
         put(file, 26 + 2 * op, latency(d, op));
         put(file, 27 + 2 * op, use_count(d, op));
-        op += 1;
     }
 }
 
@@ -57,15 +49,15 @@ fn put_uses(file: &mut [u8; 2000], d: Drawn, n: usize, from: usize) -> usize
     ensures { (from ≤ result) × (result ≤ 74) }
 {
     let mut at = from;
-    let mut i = 0;
-    while i < 3 * n {
-        let cycles = duration(d, i / 3, i % 3);
-        if 0 < cycles {
-            put(file, at, i % 3 + 1);
-            put(file, at + 1, cycles);
-            at += 2;
+    for op in 0..n {
+        for slot in 0..3 {
+            let cycles = duration(d, op, slot);
+            if cycles > 0 {
+                put(file, at, slot + 1);
+                put(file, at + 1, cycles);
+                at += 2;
+            }
         }
-        i += 1;
     }
     at
 }
@@ -74,12 +66,15 @@ fn put_uses(file: &mut [u8; 2000], d: Drawn, n: usize, from: usize) -> usize
 fn put_deps(file: &mut [u8; 2000], d: Drawn, m: usize, from: usize)
     requires { (m ≤ 6) × (from ≤ 74) }
 {
-    let mut i = 0;
-    while i < 4 * m {
-        let x = field(d, i / 4, i % 4);
-        let signed = if i % 4 == 2 { x + 250 } else { x };
-        put(file, from + i, signed);
-        i += 1;
+    for e in 0..m {
+        for which in 0..4 {
+            let x = field(d, e, which);
+            put(
+                file,
+                from + 4 * e + which,
+                if which == 2 { x + 250 } else { x },
+            );
+        }
     }
 }
 
@@ -87,8 +82,8 @@ fn put_deps(file: &mut [u8; 2000], d: Drawn, m: usize, from: usize)
 pub fn put_file(file: &mut [u8; 2000], d: Drawn) -> usize
     ensures { result ≤ 98 }
 {
-    let n = least(d.n, 6);
-    let m = least(d.m, 6);
+    let n = d.n.min(6);
+    let m = d.m.min(6);
     let ops = 26 + 2 * n;
     put_operations(file, d, n);
     let uses = put_uses(file, d, n, ops);
@@ -98,20 +93,9 @@ pub fn put_file(file: &mut [u8; 2000], d: Drawn) -> usize
     deps
 }
 
-// The first bytes of some; all where there are fewer.
-fn part(bytes: &[u8], len: usize) -> &[u8]
-    ensures { result.now ≡ take len bytes.now }
-{
-    if len < bytes.len() {
-        &bytes[0..len]
-    } else {
-        bytes
-    }
-}
-
-// The first bytes of the array.
+// The first bytes of the array; all where there are fewer.
 pub fn first(file: &[u8; 2000], len: usize) -> &[u8]
     ensures { result.now ≡ take len file.now }
 {
-    part(file, len)
+    &file[..len.min(2000)]
 }

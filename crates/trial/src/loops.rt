@@ -107,36 +107,41 @@ fn put(file: &mut [u8; 2000], bytes: &[u8]) -> usize
     ensures value { result ≡ length bytes.now }
     ensures file_after { file.new ≡ sets file.old 0 bytes.now }
 {
-    let mut i = 0;
-    while i < bytes.len() {
-        file[i] = bytes[i];
-        i += 1;
-    }
-    i
+    file[..bytes.len()].copy_from_slice(bytes);
+    bytes.len()
 }
 
-// Puts the file of loop number k at the start of the array, and answers its length. Any other number is none: nothing is put.
+// The file of loop number k. Any other number is none: it has no bytes.
+#[tactic(auto, using(crate::proofs::Puts::no_bytes), unfolding(crate::specs::Loops::loop_file))]
+fn bytes_of(k: usize) -> &'static [u8]
+    ensures value { result.now ≡ loop_file k }
+    ensures fits { length result.now ≤ 2000 }
+{
+    match k {
+        1 => &LOOP_A,
+        2 => &LOOP_B,
+        3 => &LOOP_B2,
+        4 => &LOOP_C,
+        5 => &LOOP_D,
+        6 => &LOOP_F,
+        7 => &LOOP_G,
+        8 => &LONG,
+        9 => &WRAP,
+        10 => &PAIRS,
+        11 => &SMALLEST,
+        12 => &CASE_7,
+        13 => &RING,
+        14 => &MANY,
+        _ => &[],
+    }
+}
+
+// Puts the file of loop number k at the start of the array, and answers its length. Where k is the number of none, nothing is put.
 pub fn put_loop(file: &mut [u8; 2000], k: usize) -> usize
     ensures value { result ≡ length (loop_file k) }
     ensures file_after { file.new ≡ sets file.old 0 (loop_file k) }
 {
-    match k {
-        1 => put(file, &LOOP_A),
-        2 => put(file, &LOOP_B),
-        3 => put(file, &LOOP_B2),
-        4 => put(file, &LOOP_C),
-        5 => put(file, &LOOP_D),
-        6 => put(file, &LOOP_F),
-        7 => put(file, &LOOP_G),
-        8 => put(file, &LONG),
-        9 => put(file, &WRAP),
-        10 => put(file, &PAIRS),
-        11 => put(file, &SMALLEST),
-        12 => put(file, &CASE_7),
-        13 => put(file, &RING),
-        14 => put(file, &MANY),
-        _ => 0,
-    }
+    put(file, bytes_of(k))
 }
 
 // The same, and then one byte set, where its place is in the array: a file with a fault, or another file in part.

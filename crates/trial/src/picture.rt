@@ -3,59 +3,53 @@ ghost use Rattle.std.specs.Prelude.{◌≡◌, ◌<◌, ◌≤◌};
 ghost use Rattle.trial.specs.Picture.{dabbed, painted, added, picture_of, twice_in, worth_of, rows_of, marked_in, meets_in, covered_by, place_from};
 
 use crate::drawn::{Drawn, NOWHERE, duration};
-use std::num::{wrapping_add_u8, wrapping_add_usize};
 
 // What stands in a row that is not part of the table. No row of a drawn loop is this large.
 pub const UNTOUCHED: u64 = 18446744073709551615;
 
 // One more in the cell of a slot and of the row of a cycle.
+#[tactic(auto, unfolding(crate::specs::Picture::dabbed))]
 fn dab(picture: &mut [u8; 24], slot: usize, cycle: usize, interval: usize)
     ensures { picture.new ≡ dabbed picture.old slot cycle interval }
 {
-    if slot < 3 {
-        if 0 < interval {
-            let row = cycle % interval;
-            if row < 8 {
-                picture[8 * slot + row] = wrapping_add_u8(picture[8 * slot + row], 1);
-            }
-        }
+    if slot < 3 && 0 < interval && cycle % interval < 8 {
+        let cell = 8 * slot + cycle % interval;
+        picture[cell] = picture[cell].wrapping_add(1);
     }
 }
 
 // A use, cycle by cycle.
+#[tactic(auto, unfolding(crate::specs::Picture::painted))]
 fn paint(picture: &mut [u8; 24], slot: usize, cycles: usize, start: usize, interval: usize)
     ensures { picture.new ≡ painted picture.old slot cycles start interval }
 {
-    let mut k = 0;
-    while k < cycles {
-        dab(picture, slot, wrapping_add_usize(start, k), interval);
-        k += 1;
+    for k in 0..cycles {
+        dab(picture, slot, start.wrapping_add(k), interval);
     }
 }
 
 // The uses of an operation, painted.
+#[tactic(auto, unfolding(crate::specs::Picture::added))]
 pub fn add(picture: &mut [u8; 24], d: Drawn, op: usize, start: u16, interval: u16)
     ensures { picture.new ≡ added picture.old d op start interval }
 {
-    let s = start as usize;
-    let n = interval as usize;
+    let s = usize::from(start);
+    let n = usize::from(interval);
     paint(picture, 0, duration(d, op, 0), s, n);
     paint(picture, 1, duration(d, op, 1), s, n);
     paint(picture, 2, duration(d, op, 2), s, n);
 }
 
 // The picture of the operations that are placed.
+#[tactic(auto, unfolding(crate::specs::Picture::picture_of))]
 pub fn of_starts(d: Drawn, starts: &[u16; 6], interval: u16) -> [u8; 24]
     ensures { result ≡ picture_of d starts.now interval 6 }
 {
     let mut picture = [0u8; 24];
-    let mut op = 0;
-    while op < 6 {
-        let s = starts[op];
-        if s != NOWHERE {
-            add(&mut picture, d, op, s, interval);
+    for (op, s) in starts.iter().enumerate() {
+        if *s != NOWHERE {
+            add(&mut picture, d, op, *s, interval);
         }
-        op += 1;
     }
     picture
 }
@@ -64,16 +58,11 @@ pub fn of_starts(d: Drawn, starts: &[u16; 6], interval: u16) -> [u8; 24]
 pub fn twice(picture: &[u8; 24]) -> bool
     ensures { result ≡ twice_in picture.now 24 }
 {
-    let mut found = false;
-    let mut i = 0;
-    while i < 24 {
-        found = found | (1 < picture[i]);
-        i += 1;
-    }
-    found
+    picture.iter().any(|cell| *cell > 1)
 }
 
 // v where a cell is painted, else 0.
+#[tactic(auto, unfolding(crate::specs::Picture::worth_of))]
 fn worth(picture: &[u8; 24], cell: usize, v: u64) -> u64
     requires { cell < 24 }
     ensures value { result ≡ worth_of picture.now cell v }
@@ -83,37 +72,29 @@ fn worth(picture: &[u8; 24], cell: usize, v: u64) -> u64
 }
 
 // The table as 8 rows: the picture's, one for each cycle of the interval, in which slot 1 is worth 1, slot 2 is worth 2 and slot 3 is worth 4; and untouched ones.
+#[tactic(auto, unfolding(crate::specs::Picture::rows_of, crate::specs::Picture::row_of))]
 pub fn rows(picture: &[u8; 24], interval: u16) -> [u64; 8]
     ensures { result ≡ rows_of picture.now interval 8 }
 {
-    let n = interval as usize;
     let mut out = [UNTOUCHED; 8];
-    let mut r = 0;
-    while r < 8 {
-        if r < n {
-            out[r] = worth(picture, r, 1) + worth(picture, 8 + r, 2) + worth(picture, 16 + r, 4);
+    for (r, row) in out.iter_mut().enumerate() {
+        if r < usize::from(interval) {
+            *row = worth(picture, r, 1) + worth(picture, 8 + r, 2) + worth(picture, 16 + r, 4);
         }
-        r += 1;
     }
     out
 }
 
 // Whether the cell of a slot and of the row of a cycle is painted.
+#[tactic(auto, unfolding(crate::specs::Picture::marked_in))]
 fn marked(picture: &[u8; 24], slot: usize, cycle: usize, interval: usize) -> bool
     ensures { result ≡ marked_in picture.now slot cycle interval }
 {
-    if slot < 3 {
-        if 0 < interval {
-            let row = cycle % interval;
-            if row < 8 {
-                return 0 < picture[8 * slot + row];
-            }
-        }
-    }
-    false
+    slot < 3 && 0 < interval && cycle % interval < 8 && 0 < picture[8 * slot + cycle % interval]
 }
 
 // Whether an operation uses a slot in cycle k from its start, and the cell is painted.
+#[tactic(auto, unfolding(crate::specs::Picture::meets_in))]
 fn meets(
     picture: &[u8; 24],
     d: Drawn,
@@ -125,13 +106,11 @@ fn meets(
 ) -> bool
     ensures { result ≡ meets_in picture.now d op slot k start interval }
 {
-    if k < duration(d, op, slot) {
-        return marked(picture, slot, wrapping_add_usize(start, k), interval);
-    }
-    false
+    k < duration(d, op, slot) && marked(picture, slot, start.wrapping_add(k), interval)
 }
 
 // That cell painted, where the operation uses the slot in that cycle.
+#[tactic(auto, unfolding(crate::specs::Picture::covered_by))]
 fn cover(
     picture: &mut [u8; 24],
     d: Drawn,
@@ -144,27 +123,28 @@ fn cover(
     ensures { picture.new ≡ covered_by picture.old d op slot k start interval }
 {
     if k < duration(d, op, slot) {
-        dab(picture, slot, wrapping_add_usize(start, k), interval);
+        dab(picture, slot, start.wrapping_add(k), interval);
     }
 }
 
 // The first place in which an operation meets a painted cell, as 32 times the cycle from its start plus the slot, counted from 1: the first cycle, and in it the lowest slot; 0 where it
 // meets none. Where its own cells count, each of them is painted once it has been looked at. No operation of a file has a use of more than 16 cycles, and so 48 cells are all.
+// A number and no `Option`: it is compared with what a refusal or a verdict says, and its callers ask only where there is such a place.
+#[tactic(auto, using(crate::proofs::Places::place_met, crate::proofs::Places::place_next, crate::proofs::Places::place_none))]
 pub fn place(picture: [u8; 24], d: Drawn, op: usize, start: u16, interval: u16, own: bool) -> usize
     ensures { result ≡ place_from picture d op start interval own 0 48 }
 {
-    let s = start as usize;
-    let n = interval as usize;
+    let s = usize::from(start);
+    let n = usize::from(interval);
     let mut cells = picture;
-    let mut i = 0;
-    while i < 48 {
-        if meets(&cells, d, op, i % 3, i / 3, s, n) {
-            return 32 * (i / 3) + i % 3 + 1;
+    for i in 0..48 {
+        let (cycle, slot) = (i / 3, i % 3);
+        if meets(&cells, d, op, slot, cycle, s, n) {
+            return 32 * cycle + slot + 1;
         }
         if own {
-            cover(&mut cells, d, op, i % 3, i / 3, s, n);
+            cover(&mut cells, d, op, slot, cycle, s, n);
         }
-        i += 1;
     }
     0
 }

@@ -2,9 +2,8 @@
 ghost use Rattle.std.specs.Prelude.{◌≡◌};
 ghost use Rattle.trial.specs.Random.{next_of, pick_of};
 
-use std::num::wrapping_add_usize;
-
 // The next state.
+#[tactic(auto, unfolding(crate::specs::Random::next_of))]
 pub fn next(seed: usize) -> usize
     ensures { result ≡ next_of seed }
 {
@@ -12,11 +11,13 @@ pub fn next(seed: usize) -> usize
 }
 
 // One of n numbers from the least on; the least itself where n is 0.
+#[tactic(auto, unfolding(crate::specs::Random::pick_of))]
 pub fn pick(seed: usize, least: usize, n: usize) -> usize
     ensures { result ≡ pick_of seed least n }
 {
     if n == 0 {
-        return least;
+        least
+    } else {
+        (seed / 65536 % n).wrapping_add(least)
     }
-    wrapping_add_usize(seed / 65536 % n, least)
 }

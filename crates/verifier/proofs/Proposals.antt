@@ -1,27 +1,30 @@
 -- A proposal that passes its checks, and the verifier's answer then. Assumes nothing.
-use mathlib.Core.Path.{◌≡◌, ap, ◌∙◌}
-use mathlib.Core.Bool.{Bool}
+use mathlib.Core.Path.{◌≡◌, sym, ◌∙◌}
+use mathlib.Core.Bool.{true≢false}
 use mathlib.Core.List.{List}
-use mathlib.Core.Option.{Option, none, some}
+use mathlib.Core.Option.{Option, none}
 use Prim.Native.Nat.{ℕ}
 use native.Mathlib.Omega.{arith}
-use lib.Dec.{leb}
 use lib.ListN.{length, get_or}
 use borrow.Author.Tests.{ltb-false, leb-false, le-ltb, lt-leb}
 use Rattle.model.specs.Lists.{up_from}
-use Rattle.model.specs.Refusals.{Refusal, first_refusal, answered, refused, settled}
+use Rattle.model.specs.Refusals.{first_refusal, answered}
 use Rattle.model.specs.Loop.{Loop, size}
 use Rattle.model.specs.File.{file_checks, loop_of, Accepted}
 use Rattle.model.specs.Verifier.{proposal_checks, proposed_checks, judge, first_broken, first_pair, pair_place, verdict, verify_file}
 use Rattle.model.specs.Counts.{number_of}
-use Rattle.model.proofs.Lists.{any_row, row_any, first_none, none_first}
+use Rattle.model.proofs.Firsts.{row_not}
+use Rattle.model.proofs.Lists.{any_row, none_first}
 use Rattle.model.proofs.Checks.{refusal_append, passes_left, passes_right, passes_head, passes_tail, not_found, in_range, at_most, at_least}
+use Rattle.std.specs.Prelude.{Result, Ok, Err, IsErr, IsErrAnd, IfErr}
+use Rattle.refusals.specs.declared.Refusal as code
+use Rattle.refusals.specs.Told.{refusal_of}
+use Rattle.verifier.specs.declared.Verdict as answers
+use Rattle.verifier.specs.Answer.{verdict_of}
 use Rattle.verifier.specs.Walk.{one_each, Proposal}
+use Rattle.verifier.proofs.Starts.{late}
 
 module _ (l : Loop) (ii : ℕ) (xs : List ℕ) where
-  abbrev late : ℕ → Bool
-  late o = leb 4096 (get_or xs o 0)
-
   -- a proposal that passes its checks is one that the walks take
   pub passes_asked : first_refusal (proposal_checks l ii xs) ≡ none → Proposal l ii xs
   unfolding proposal_checks
@@ -29,7 +32,7 @@ module _ (l : Loop) (ii : ℕ) (xs : List ℕ) where
     some = at_least 4096 ii (passes_head _ _ e);
     short = at_most 4096 ii (passes_head _ _ e);
     all = ltb-false (length xs) (size l) (passes_head _ _ (passes_tail _ _ e));
-    early = λ o h. leb-false 4096 (get_or xs o 0) (any_row late 0 (size l) o (none_first late (up_from 0 (size l)) (not_found 15 _ (passes_head _ _ (passes_tail _ _ (passes_tail _ _ e))))) (omega arith) (omega arith));
+    early = λ o h. leb-false 4096 (get_or xs o 0) (any_row (late xs) 0 (size l) o (none_first (late xs) (up_from 0 (size l)) (not_found 15 _ (passes_head _ _ (passes_tail _ _ (passes_tail _ _ e))))) (omega arith) (omega arith));
   }
 
   -- and the other way round
@@ -39,7 +42,7 @@ module _ (l : Loop) (ii : ℕ) (xs : List ℕ) where
       rw (
         in_range 4096 ii p.some p.short,
         le-ltb (length xs) (size l) p.all,
-        first_none late (up_from 0 (size l)) (row_any late 0 (size l) (λ o x y. lt-leb 4096 (get_or xs o 0) (p.early o (omega arith)))),
+        row_not (late xs) (size l) (λ o m. lt-leb 4096 (get_or xs o 0) (p.early o m)),
       )
 
 module _ (f : List ℕ) (ii : ℕ) (xs : List ℕ) where
@@ -56,14 +59,16 @@ module _ (f : List ℕ) (ii : ℕ) (xs : List ℕ) where
   unfolding proposed_checks
   pass_asked e = passes_asked (loop_of f) ii xs (passes_right (file_checks f) (proposal_checks (loop_of f) ii xs) e)
 
-  -- a refusal is the answer
-  pub by_check : (r : Refusal) → first_refusal (proposed_checks f ii xs) ≡ some r → verify_file f ii xs ≡ refused r
+  -- a refusal, which is passed on, is the answer
+  pub by_check : {A : Type 0} (c : Result A code.Refusal) (r : Result answers.Verdict code.Refusal) → IsErr c → IsErrAnd r (λ y. IfErr c (λ x. y ≡ x)) → refusal_of c ≡ first_refusal (proposed_checks f ii xs)
+      → verdict_of r ≡ verify_file f ii xs
   unfolding verify_file
-  by_check r e = ap (λ (o : Option Refusal). settled o (verdict (loop_of f) ii (one_each (loop_of f) xs))) e
+  by_check (Ok a) r e h p = absurd (true≢false (sym e))
+  by_check (Err x) (Ok v) e h p = absurd h
+  by_check (Err x) (Err y) e h p = rw (← p, h)
 
   -- and else what the two walks find
-  pub by_walks : first_refusal (proposed_checks f ii xs) ≡ none
-      → verify_file f ii xs
-      ≡ answered (judge (first_broken (loop_of f) ii (one_each (loop_of f) xs)) (first_pair (loop_of f) ii (one_each (loop_of f) xs)) (λ p. number_of (pair_place (loop_of f) ii (one_each (loop_of f) xs) p)))
+  pub by_walks : (e : Option ℕ) (p : Option (ℕ × ℕ)) → first_refusal (proposed_checks f ii xs) ≡ none → e ≡ first_broken (loop_of f) ii (one_each (loop_of f) xs) → p ≡ first_pair (loop_of f) ii (one_each (loop_of f) xs)
+      → answered (judge e p (λ q. number_of (pair_place (loop_of f) ii (one_each (loop_of f) xs) q))) ≡ verify_file f ii xs
   unfolding verify_file verdict
-  by_walks e = ap (λ (o : Option Refusal). settled o (verdict (loop_of f) ii (one_each (loop_of f) xs))) e
+  by_walks e p h x y = rw (h, x, y)

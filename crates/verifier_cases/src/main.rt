@@ -4,25 +4,21 @@
 
 mod random;
 
-use trial::drawn::{byte, least};
+use trial::drawn::byte;
 use trial::file::first;
 use trial::loops::put_changed;
-use verifier::Verdict;
+use verifier::{Refusal, Verdict};
 
 // `: legal`, `: dependence E`, `: conflict A B at P`, or `: refused N at D`.
-fn print(found: Verdict) {
+fn print(found: Result<Verdict, Refusal>) {
     match found {
-        Verdict::Legal => {
-            io::write_all(1, b": legal\n");
+        Ok(Verdict::Legal) => console::list(b": legal\n", &[]),
+        Ok(Verdict::Broken(e)) => console::list(b": dependence %\n", &[e]),
+        Ok(Verdict::Conflict(a, b, place)) => {
+            console::list(b": conflict % % at %\n", &[a, b, place])
         }
-        Verdict::Broken(e) => {
-            console::form(b": dependence %\n", [e, 0, 0, 0, 0]);
-        }
-        Verdict::Conflict(a, b, place) => {
-            console::form(b": conflict % % at %\n", [a, b, place, 0, 0]);
-        }
-        Verdict::Refused(n, detail) => {
-            console::form(b": refused % at %\n", [n, detail, 0, 0, 0]);
+        Err(refusal) => {
+            console::list(b": refused % at %\n", &[refusal.number(), refusal.detail()])
         }
     }
 }
@@ -32,60 +28,30 @@ fn start(x: usize) -> u16 {
     (x % 65536) as u16
 }
 
-// The verdict on the first k of four starts.
-fn of_list(file: &[u8], interval: usize, starts: [u16; 4], k: usize) -> Verdict {
-    let n = least(k, 4);
-    verifier::verify(file, interval, &starts[0..n])
-}
-
-// The verdict on a file with the interval and the starts of a case.
-fn verified(file: &[u8], q: &[usize; 10]) {
-    let mut starts = [0u16; 4];
-    let mut i = 0;
-    while i < 4 {
-        starts[i] = start(q[6 + i]);
-        i += 1;
-    }
-    print(of_list(file, q[4], starts, q[5]));
-}
-
-// The same with the file of the case.
-fn of_file(q: &[usize; 10]) {
+// The verdict on the file, the interval and the starts of a case.
+fn of_case(q: [usize; 10]) -> Result<Verdict, Refusal> {
+    let [which, len, at, value, interval, count, a, b, c, d] = q;
     let mut file = [0u8; 2000];
-    put_changed(&mut file, q[0], q[2], byte(q[3]));
-    verified(first(&file, q[1]), q);
+    put_changed(&mut file, which, at, byte(value));
+    let starts = [start(a), start(b), start(c), start(d)];
+    verifier::verify(first(&file, len), interval, &starts[..count.min(4)])
 }
 
 // A line of the table: its name, and the verdict. One that begins with `#` is a comment.
 fn replay_line(line: &[u8]) {
     let mut q = [0usize; 10];
     let at = console::numbers(line, 0, &mut q);
-    if at < line.len() {
-        if line[0] != b'#' {
-            console::rest(line, at);
-            of_file(&q);
-        }
+    if at < line.len() && line[0] != b'#' {
+        console::rest(line, at);
+        print(of_case(q));
     }
 }
 
-// The lines of the table.
-fn replay(table: &[u8]) {
-    let mut at = 0;
-    while at < table.len() {
-        let end = console::find(table, at, b'\n');
-        replay_line(&table[at..end]);
-        at = end + 1;
-    }
-}
-
+// The table, then the random lists.
 fn main(rt: HostRuntime) {
     let mut table = [0u8; 16384];
-    let input = console::read_all(&mut rt.stdin(), &mut table);
-    let n = input.count;
-    if input.whole {
-        replay(&table[..n]);
-    } else {
-        io::write_all(1, b"cannot read\n");
-    }
+    console::with_input(&mut rt.stdin(), &mut table, |text| {
+        console::each_line(text, replay_line)
+    });
     random::lists();
 }

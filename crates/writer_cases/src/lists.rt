@@ -19,23 +19,21 @@ fn minus(v: usize) -> i32 {
 
 // The number at a place of a line.
 fn signed_at(line: &[u8], at: usize) -> i32 {
-    if at < line.len() {
-        if line[at] == b'-' {
-            let below = console::number_at(line, at + 1);
-            return minus(below.value);
-        }
+    if at < line.len() && line[at] == b'-' {
+        minus(console::number_at(line, at + 1).value)
+    } else {
+        plus(console::number_at(line, at).value)
     }
-    let above = console::number_at(line, at);
-    plus(above.value)
 }
 
 // Puts a number behind the first `count` of a list, where there is room; how many it has then.
 fn more(list: &mut [i32; 1032], count: usize, z: i32) -> usize {
     if count < 1032 {
         list[count] = z;
-        return count + 1;
+        count + 1
+    } else {
+        count
     }
-    count
 }
 
 // The numbers from `from` to `count` again, until they stand there so many times or the list is full; how many numbers it has then.
@@ -44,15 +42,11 @@ fn repeat(list: &mut [i32; 1032], from: usize, count: usize, times: usize) -> us
         return count;
     }
     let width = count - from;
-    let mut n = count;
-    while n < 1032 {
-        if times <= (n - from) / width {
-            return n;
-        }
+    let end = from.saturating_add(width.saturating_mul(times)).min(1032);
+    for n in count..end {
         list[n] = list[n - width];
-        n += 1;
     }
-    n
+    count.max(end)
 }
 
 // Reads the list that begins at a place of the line, up to its `/`. An x repeats what stands there since `from`.
@@ -61,39 +55,21 @@ pub fn read(line: &[u8], at: usize, list: &mut [i32; 1032]) -> List {
     let mut from = 0;
     let mut next = at;
     while next < line.len() {
-        let end = console::find(line, next, b' ');
-        let b = line[next];
-        if b == b'/' {
-            return List {
-                count: count,
-                next: end + 1,
-            };
+        let word = next;
+        next = console::find(line, word, b' ') + 1;
+        match line[word] {
+            b'/' => return List { count, next },
+            b'x' => {
+                count = repeat(list, from, count, console::number_at(line, word + 1).value);
+                from = count;
+            }
+            _ => count = more(list, count, signed_at(line, word)),
         }
-        if b == b'x' {
-            let times = console::number_at(line, next + 1);
-            count = repeat(list, from, count, times.value);
-            from = count;
-        } else {
-            count = more(list, count, signed_at(line, next));
-        }
-        next = end + 1;
     }
-    List {
-        count: count,
-        next: next,
-    }
+    List { count, next }
 }
 
-// The first numbers of some; all where there are fewer.
-fn part(numbers: &[i32], n: usize) -> &[i32] {
-    if n < numbers.len() {
-        &numbers[0..n]
-    } else {
-        numbers
-    }
-}
-
-// The first numbers of a list.
+// The first numbers of a list; all where there are fewer.
 pub fn first(list: &[i32; 1032], n: usize) -> &[i32] {
-    part(list, n)
+    &list[..n.min(1032)]
 }

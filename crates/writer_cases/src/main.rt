@@ -5,55 +5,40 @@
 mod lists;
 mod random;
 
-use loop_file::Reading;
-use loop_writer::Written;
-use trial::drawn::least;
 use trial::file::first;
 
 // How many bytes at the end of the array are still 170.
 fn left(out: &[u8; 2000]) -> usize {
-    let mut k = 0;
-    while k < 2000 {
-        if out[1999 - k] != 170 {
-            return k;
-        }
-        k += 1;
-    }
-    k
+    out.iter().rev().take_while(|byte| **byte == 170).count()
 }
 
 // `: N bytes, A operations, B uses, C dependences, K left` by the reader's answer on the bytes written, or its refusal.
 fn print_sizes(file: &[u8], left: usize) {
     match loop_file::read(file) {
-        Reading::Accepted(ops, uses, deps) => {
-            console::form(
-                b": % bytes, % operations, % uses, % dependences, % left\n",
-                [file.len(), ops, uses, deps, left],
-            );
-        }
-        Reading::Refused(number, detail) => {
-            console::form(
-                b": % bytes, refused % at %, % left\n",
-                [file.len(), number, detail, left, 0],
-            );
-        }
+        Ok(counts) => console::list(
+            b": % bytes, % operations, % uses, % dependences, % left\n",
+            &[
+                file.len(),
+                counts.operations,
+                counts.uses,
+                counts.dependences,
+                left,
+            ],
+        ),
+        Err(refusal) => console::list(
+            b": % bytes, refused % at %, % left\n",
+            &[file.len(), refusal.number(), refusal.detail(), left],
+        ),
     }
-}
-
-// Byte i of a line of bytes.
-fn print_byte(i: usize, byte: u8) {
-    if 0 < i {
-        io::write_all(1, b" ");
-    }
-    io::print_decimal(1, byte as u64);
 }
 
 // A line of bytes.
 fn print_bytes(file: &[u8]) {
-    let mut i = 0;
-    while i < file.len() {
-        print_byte(i, file[i]);
-        i += 1;
+    for (i, byte) in file.iter().enumerate() {
+        if 0 < i {
+            io::write_all(1, b" ");
+        }
+        io::print_decimal(1, u64::from(*byte));
     }
     io::write_all(1, b"\n");
 }
@@ -68,18 +53,14 @@ fn print_file(file: &[u8], left: usize) {
 
 // The writer's answer on three lists and a buffer of so many bytes, and what it left.
 fn written(ops: &[i32], uses: &[i32], deps: &[i32], bytes: usize) {
-    let room = least(bytes, 2000);
+    let room = bytes.min(2000);
     let mut out = [170u8; 2000];
-    match loop_writer::write(ops, uses, deps, &mut out[0..room]) {
-        Written::Bytes(n) => {
-            print_file(first(&out, n), left(&out));
-        }
-        Written::Refused(number, detail) => {
-            console::form(
-                b": refused % at %, % left\n",
-                [number, detail, left(&out), 0, 0],
-            );
-        }
+    match loop_writer::write(ops, uses, deps, &mut out[..room]) {
+        Ok(n) => print_file(first(&out, n), left(&out)),
+        Err(refusal) => console::list(
+            b": refused % at %, % left\n",
+            &[refusal.number(), refusal.detail(), left(&out)],
+        ),
     }
 }
 
@@ -92,38 +73,22 @@ fn replay_line(line: &[u8]) {
     let b = lists::read(line, a.next, &mut uses);
     let c = lists::read(line, b.next, &mut deps);
     let room = console::number_at(line, c.next);
-    if room.next < line.len() {
-        if line[0] != b'#' {
-            console::rest(line, room.next);
-            written(
-                lists::first(&ops, a.count),
-                lists::first(&uses, b.count),
-                lists::first(&deps, c.count),
-                room.value,
-            );
-        }
-    }
-}
-
-// The lines of the table.
-fn replay(table: &[u8]) {
-    let mut at = 0;
-    while at < table.len() {
-        let end = console::find(table, at, b'\n');
-        replay_line(&table[at..end]);
-        at = end + 1;
+    if room.next < line.len() && line[0] != b'#' {
+        console::rest(line, room.next);
+        written(
+            lists::first(&ops, a.count),
+            lists::first(&uses, b.count),
+            lists::first(&deps, c.count),
+            room.value,
+        );
     }
 }
 
 // The table, then the random loops.
 fn main(rt: HostRuntime) {
     let mut table = [0u8; 16384];
-    let input = console::read_all(&mut rt.stdin(), &mut table);
-    let n = input.count;
-    if input.whole {
-        replay(&table[..n]);
-    } else {
-        io::write_all(1, b"cannot read\n");
-    }
+    console::with_input(&mut rt.stdin(), &mut table, |text| {
+        console::each_line(text, replay_line)
+    });
     random::loops();
 }

@@ -1,14 +1,7 @@
--- A file that there is begins where its entry says.
-use Rattle.std.proofs.Common.{◌<◌, length, arith, lt-ltb, ◌∙◌}
-use Rattle.model.specs.Bundle.{files}
+use Rattle.std.proofs.Common.{arith}
 use Rattle.model.proofs.Bundle.{entry_at_lem}
 use Rattle.bundle.proofs.offset.Goals as goal
 
+-- the entry of a file that there is lies inside the bundle
 pub word-requires : goal.word-requires
-word-requires c = let a = c.args in omega (arith, entry_at_lem a.bundle.now a.i (omega arith))
-
-pub returns-then-i-count : goal.returns-then-i-count
-returns-then-i-count c =
-    let a = c.args in
-    let h : a.i < length (files a.bundle.now) = omega arith in
-    rw (lt-ltb _ _ h) (c.word.ensures.0 ∙ (entry_at_lem a.bundle.now a.i h).placed)
+word-requires c = omega (arith, entry_at_lem c.args.bundle.now c.args.i (omega arith))

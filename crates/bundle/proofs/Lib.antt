@@ -1,0 +1,2 @@
+-- Hand-written laws of the crate that belong to no one function.
+pub mod Reading

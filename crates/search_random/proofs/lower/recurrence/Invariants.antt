@@ -1,6 +1,0 @@
--- The loop counts up, and the measure is what is left.
-use Rattle.std.proofs.Common.{◌-◌}
-use Rattle.search_random.proofs.lower.recurrence.Given as goal
-
-abbrev pub decreases-loop-interval : goal.decreases-loop-interval
-decreases-loop-interval l = 101 - l.interval

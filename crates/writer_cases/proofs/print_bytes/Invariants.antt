@@ -1,9 +1,0 @@
--- The loop counts up, and the measure is what is left.
-use Rattle.std.proofs.Common.{◌-◌, length}
-use Rattle.writer_cases.proofs.print_bytes.Given as goal
-
-abbrev pub invariant-loop-i : goal.invariant-loop-i
-invariant-loop-i l = Unit
-
-abbrev pub decreases-loop-i : goal.decreases-loop-i
-decreases-loop-i l = length l.file - l.i

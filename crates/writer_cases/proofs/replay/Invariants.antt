@@ -1,9 +1,0 @@
--- Each turn goes on past the end of its line, and the measure is what is left of the table.
-use Rattle.std.proofs.Common.{◌-◌, length}
-use Rattle.writer_cases.proofs.replay.Given as goal
-
-abbrev pub invariant-loop-at : goal.invariant-loop-at
-invariant-loop-at l = Unit
-
-abbrev pub decreases-loop-at : goal.decreases-loop-at
-decreases-loop-at l = length l.table - l.at
