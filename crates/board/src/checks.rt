@@ -13,7 +13,7 @@ use loop_access::{first_use, op_count};
 use refusals::Refusal;
 use reservation::deps::{first_broken, first_own_broken};
 use reservation::test::{conflict, own_place};
-use reservation::{Place, number};
+use reservation::{NOT_PLACED, Place, number};
 
 // An operation that is there and not placed, and a start below the horizon: what placing and forcing have in common.
 fn known(
@@ -29,7 +29,7 @@ fn known(
     if op_count(file) <= op {
         return Err(Refusal::NoOperation(op));
     }
-    if starts[op] != 65535 {
+    if starts[op] != NOT_PLACED {
         return Err(Refusal::Placed(op));
     }
     if horizon <= start {
@@ -102,7 +102,7 @@ pub fn removable(file: &[u8], op: usize, starts: &[u16; 64]) -> Result<(), Refus
     if op_count(file) <= op {
         return Err(Refusal::NoOperation(op));
     }
-    if starts[op] == 65535 {
+    if starts[op] == NOT_PLACED {
         return Err(Refusal::NotPlaced(op));
     }
     Ok(())

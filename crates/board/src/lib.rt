@@ -11,6 +11,7 @@ ghost use Rattle.model.specs.File.{loop_of};
 ghost use Rattle.board.specs.Board.{Board, MayPut, IsPut};
 
 use loop_access::first_use;
+use reservation::NOT_PLACED;
 use reservation::cells::{release, reserve};
 
 // What a call that is not refused answers: done; the operations that were displaced, bit i for operation i; the number of the new checkpoint.
@@ -21,8 +22,6 @@ pub enum Reply {
     Numbered(usize),
 }
 
-// The starts are numbers, in which 65,535 stands for "not placed", and no Options: the C interface hands them out so, and Options would take twice the memory.
-
 // Takes out a placed operation.
 fn lift(file: &[u8], op: usize, interval: usize, starts: &mut [u16; 64], rows: &mut [u64])
     requires { Board file.now interval 4096 starts.old rows.old × (op < size (loop_of file.now)) × (get_or starts.old op 65535 < 65535) }
@@ -30,7 +29,7 @@ fn lift(file: &[u8], op: usize, interval: usize, starts: &mut [u16; 64], rows: &
 {
     let start = starts[op] as usize;
     release(file, op, first_use(file, op), start, interval, rows);
-    starts[op] = 65535;
+    starts[op] = NOT_PLACED;
 }
 
 // Puts in an operation that is not placed, at a start where it fits.

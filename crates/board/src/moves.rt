@@ -10,6 +10,7 @@ use crate::checks::{forceable, placeable, removable};
 use crate::{Reply, lift, put};
 use loop_access::{dep_count, first_use, op_count, source, target};
 use refusals::Refusal;
+use reservation::NOT_PLACED;
 use reservation::deps::breaks_at;
 use reservation::pairs::overlap;
 use reservation::test::is_free;
@@ -128,7 +129,8 @@ fn in_the_way(
     ensures { result ≡ model.in_the_way (setup_as file.now interval 0) (starts_of (size (loop_of file.now)) starts.now) op start p }
 {
     let other = starts[p];
-    other != 65535 && (hits[p] || (!free && overlap(file, op, start, p, other as usize, interval)))
+    other != NOT_PLACED
+        && (hits[p] || (!free && overlap(file, op, start, p, other as usize, interval)))
 }
 
 // Makes the starts those that are wanted, and the rows theirs: what differs is taken out first and put in then, and nothing else is touched.
@@ -159,7 +161,7 @@ fn lift_others(
 {
     for p in 0..op_count(file) {
         let start = starts[p];
-        if start != 65535 && start != wanted[p] {
+        if start != NOT_PLACED && start != wanted[p] {
             lift(file, p, interval, starts, rows);
         }
     }
@@ -178,7 +180,7 @@ fn put_missing(
 {
     for p in 0..op_count(file) {
         let start = wanted[p];
-        if starts[p] == 65535 && start != 65535 {
+        if starts[p] == NOT_PLACED && start != NOT_PLACED {
             put(file, p, start as usize, interval, starts, rows);
         }
     }

@@ -61,7 +61,7 @@ pub fn file(bundle: &[u8], i: usize) -> &[u8]
     &bundle[begin..end]
 }
 
-// Where file i begins in the bundle; 0 where there is none.
+// Where file i begins in the bundle; 0 where there is none. (No Option: the model's definition gives 0.)
 #[tactic(auto, using(model::proofs::Bundle::entry_at_lem, std::proofs::lemmas::Bool::Decides::nat_tests))]
 pub fn offset(bundle: &[u8], i: usize) -> usize
     ensures { result ≡ begin_of bundle.now i }

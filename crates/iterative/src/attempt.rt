@@ -6,10 +6,10 @@ ghost use Rattle.model.specs.File.{loop_of};
 ghost use Rattle.board.specs.Board.{Board};
 ghost use Rattle.iterative.specs.Placed.{IntervalReady, Kept, PutAll, AttemptLeaves};
 
-use crate::NOT_PLACED;
 use crate::priority::{Direction, paths, pick, rank_all};
 use crate::timing::choose_start;
 use board::moves::force;
+use reservation::NOT_PLACED;
 use reservation::clear::clear_rows;
 
 // One step: puts `op`, on the grid or at any start, and takes out what is in its way; whether there is a start for it below the horizon. again[i] is the first start after the last one that operation i had, 0 at first.

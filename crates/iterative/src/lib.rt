@@ -12,9 +12,6 @@ ghost use Rattle.iterative.specs.Placed.{IntervalsAsked, Placed};
 
 use crate::attempt::attempt_all;
 
-// What stands in a list of starts for an operation that is not placed: the board's starts are 16 bits each and have a number for it, as the C interface has.
-const NOT_PLACED: u16 = 65535;
-
 // The last interval that is tried. From horizon + 63 on no row wraps and every dependence on an earlier iteration is met, so the same starts below the horizon are legal at every interval from there on.
 fn last_of(least: usize, cap: usize, horizon: usize) -> usize
     requires { horizon ≤ 4096 }

@@ -5,9 +5,9 @@ ghost use Rattle.model.specs.Loop.{size, op_at};
 ghost use Rattle.model.specs.File.{loop_of, Accepted};
 ghost use Rattle.iterative.specs.Priority.{held_by, Higher, Picked};
 
-use crate::NOT_PLACED;
 use descent::earliest;
 use loop_access::{dep_count, duration, first_use, source, target, use_count};
+use reservation::NOT_PLACED;
 
 // A number as one of 0 to 4,095. At an interval at which the dependences can be met no path is longer than 63 * 64.
 fn capped(x: usize) -> usize

@@ -6,9 +6,9 @@ ghost use Rattle.model.specs.File.{loop_of, Accepted};
 ghost use Rattle.board.specs.Board.{Board, Sane};
 ghost use Rattle.iterative.specs.Timing.{DueIs, EarliestStart, longest_of, width_of, on_grid, GridRows, SuitsIs, FirstFree, ToGrid, StartIs};
 
-use crate::NOT_PLACED;
 use descent::earliest;
 use loop_access::{dep_count, duration, first_use, source, target, use_count};
+use reservation::NOT_PLACED;
 use reservation::test::is_free;
 
 // How early dependence e lets `op` start: 0 where it does not lead to `op` from another operation that is placed.

@@ -2,7 +2,7 @@
 ghost use Rattle.std.specs.Prelude.{◌≡◌, ◌+◌, ◌<◌, length};
 ghost use Rattle.model.specs.File.{word_at, signed_byte};
 
-// A byte as a number.
+// A byte as a number. (A function, for the range that callers' proofs read.)
 pub fn wide(b: u8) -> usize
     ensures { (result ≡ b) × (result < 256) }
 {

@@ -149,7 +149,7 @@ fn dep(deps: &[i32], n: usize, e: usize) -> Result<(), Refusal>
     Ok(())
 }
 
-// Refusal 6: m dependences between n operations.
+// Refusal 6: m dependences between n operations. (Like `op_list` but for the record: one function with a closure would have to spell out what that asks and answers.)
 #[tactic(auto, using(crate::proofs::Rows::rows))]
 fn dep_list(deps: &[i32], n: usize, m: usize) -> Result<(), Refusal>
     requires { (4 * m ≤ length deps.now) × (1 ≤ n) × (n ≤ 64) }

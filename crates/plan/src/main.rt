@@ -1,4 +1,4 @@
-// Reads a loop file from standard input to its end, and prints the planner's schedule, or the refusal.
+// Reads a loop file from standard input to its end, and prints the planner's schedule, or the refusal. (What it has in common with `schedule` is `console::with_input` and `listing`; the call and the first line are its own.)
 #![tactic(auto)]
 
 use planner::PlanFound;

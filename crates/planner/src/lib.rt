@@ -10,6 +10,7 @@ ghost use Rattle.search.specs.Admitted.{AllPassed};
 use iterative::place_all;
 use lower_bounds::Bounds;
 use refusals::passed_on;
+use reservation::NOT_PLACED;
 use reservation::clear::clear_rows;
 use reservation::memory::write_list;
 use search::{Unsolved, admitted};
@@ -58,7 +59,7 @@ fn make(
     ensures { PlanMade file.now bounds cap horizon budget list.old rows.old result list.new rows.new }
 {
     let least = bounds.larger();
-    let mut starts = [65535u16; 64];
+    let mut starts = [NOT_PLACED; 64];
     let quick = place_all(file, n, least, cap, horizon, &mut starts, rows);
     if quick == Some(least) {
         clear_rows(rows, 4096);

@@ -6,6 +6,7 @@ ghost use Rattle.model.specs.Legality.{holds, place_at, breaks, first_breach};
 ghost use Rattle.model.specs.Session.{nowhere};
 ghost use Rattle.reservation.specs.Seats.{seats, broken_of};
 
+use crate::NOT_PLACED;
 use loop_access::{delay, dep_count, distance, source, target};
 
 // Whether dependence e holds with its source started at `from` and its target at `to`.
@@ -28,7 +29,7 @@ fn start_of(starts: &[u16], op: usize, start: usize, other: usize) -> Option<usi
         return Some(start);
     }
     match starts[other] {
-        65535 => None,
+        NOT_PLACED => None,
         placed => Some(placed as usize),
     }
 }

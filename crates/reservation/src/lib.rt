@@ -12,6 +12,9 @@ pub mod test;
 ghost use Rattle.std.specs.Prelude.{◌≡◌};
 ghost use Rattle.reservation.specs.Place.{number_in, InRange};
 
+// What stands in a list of starts for an operation that is not placed. (A number: the C interface lends such lists, and Options would take twice the memory.)
+pub const NOT_PLACED: u16 = 65535;
+
 // Where an operation meets a taken cell: the cycle, counted from its start, and the slot.
 #[derive(Clone, Copy)]
 pub struct Place {
@@ -19,7 +22,7 @@ pub struct Place {
     pub slot: usize,
 }
 
-// The number of a place: 32 times the cycle, and the slot; 0 where there is none.
+// The number of a place: 32 times the cycle, and the slot; 0 where there is none. (No Option: the definition that refusals and verdicts go by gives 0.)
 pub fn number(p: Option<Place>) -> usize
     requires { InRange p }
     ensures { result ≡ number_in p }

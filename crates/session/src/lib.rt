@@ -15,6 +15,7 @@ use board::moves;
 use loop_access::LONGEST;
 pub use refusals::Refusal;
 use refusals::passed_on;
+use reservation::NOT_PLACED;
 use reservation::clear::clear_rows;
 
 // What a checkpoint keeps (document 01: a mark): the starts, and the numbers of free rows.
@@ -57,7 +58,7 @@ pub fn open(
     store::copy_file(file, &mut copy);
     clear_rows(rows, interval);
     let blank = Kept {
-        starts: [65535u16; 64],
+        starts: [NOT_PLACED; 64],
         free: [65535u16; 24],
     };
     Ok(Session {
@@ -65,7 +66,7 @@ pub fn open(
         length: file.len(),
         interval,
         horizon,
-        starts: [65535u16; 64],
+        starts: [NOT_PLACED; 64],
         free: [interval as u16; 24],
         marks: 0,
         saved: [blank; 16],

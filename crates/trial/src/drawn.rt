@@ -20,7 +20,7 @@ pub struct Drawn {
 // A number and no `None`, since the lists that it is compared with are the library's, which hold it through the C interface.
 pub const NOWHERE: u16 = 65535;
 
-// The lowest byte.
+// The lowest byte. (A function, for the equation that the clauses above it go by.)
 pub fn byte(x: usize) -> u8
     ensures { result ≡ x % 256 }
 {
@@ -51,7 +51,7 @@ pub fn latency(d: Drawn, op: usize) -> usize
     }
 }
 
-// A byte of a dependence: 0 from, 1 to, 2 the delay and 6 more, 3 the distance.
+// A byte of a dependence: 0 from, 1 to, 2 the delay and 6 more, 3 the distance. (A place and no enum: the clause is an equation over the four bytes.)
 #[tactic(auto, unfolding(crate::specs::Drawn::field_of))]
 pub fn field(d: Drawn, e: usize, which: usize) -> usize
     ensures value { result ≡ field_of d e which }
