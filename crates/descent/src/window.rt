@@ -1,6 +1,6 @@
 // The window of an operation: the starts that its dependences with itself and with earlier operations allow. It is worked out once for each operation chosen, so that the
 // starts outside it are paid for at once. Internal: each function asks for an accepted file.
-#![tactic(auto, using(model::proofs::File::accepted_ok))]
+#![tactic(auto, using(model::proofs::File::accepted_ok, reservation::proofs::Ranges::ranges))]
 
 ghost use Rattle.std.specs.Prelude.{◌≡◌, ◌<◌, ◌≤◌, ◌↔◌, IsTrue, length, take};
 ghost use Rattle.model.specs.Loop.{size};
