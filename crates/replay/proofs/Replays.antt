@@ -105,8 +105,8 @@ module _ (f : List ℕ) (ii h : ℕ) (calls rows replies starts free before afte
         rw (o.rows_are ∙ ap (λ (a : Answer Setup). open_rows a rows) (sym o.says)) (replayed_refused r (as_opened ∙ sym o.says) w)
 
     -- all calls made
-    pub all_made : {s : Session} {rows₁ rows' replies' starts' free' : List ℕ} {marks : ℕ} → Opened f ii h rows (Ok s) rows₁
-        → Made (calls_of calls) s rows₁ replies marks rows' replies' starts' free' → after ≡ written 0 (0 ∷ call_count calls ∷ marks ∷ 0 ∷ 0 ∷ 0 ∷ 0 ∷ 0 ∷ []) before
+    pub all_made : {s s' : Session} {rows₁ rows' replies' starts' free' : List ℕ} {marks : ℕ} → Opened f ii h rows (Ok s) rows₁
+        → Made (calls_of calls) s rows₁ replies marks s' rows' replies' starts' free' → after ≡ written 0 (0 ∷ call_count calls ∷ marks ∷ 0 ∷ 0 ∷ 0 ∷ 0 ∷ 0 ∷ []) before
         → Replayed f ii h calls rows replies starts free before 0 rows' replies' starts' free' after
     all_made o m w =
         let u : Setup = setup_as f ii h in

@@ -106,12 +106,11 @@ pub record Replayed (f : List ℕ) (ii h : ℕ) (calls rows replies starts free 
 
 -- ---- the walk over the calls
 
--- calls made one after the other from s and rows, with the answers written from place 0 on: marks, xs and free are the open checkpoints, the starts and the numbers of the session that they lead to
-pub record Made (cs : List Call) (s : Session) (rows old : List ℕ) (marks : ℕ) (rows' new xs free : List ℕ) : Type 0 where
-  pub last : Session
+-- calls made one after the other from s and rows lead to s' and rows', with the answers written from place 0 on: marks, xs and free are the open checkpoints, the starts and the numbers of s'
+pub record Made (cs : List Call) (s : Session) (rows old : List ℕ) (marks : ℕ) (s' : Session) (rows' new xs free : List ℕ) : Type 0 where
   pub answers : List (Answer Reply)
-  pub run : Run s rows cs answers last rows'
+  pub run : Run s rows cs answers s' rows'
   pub words : new ≡ written 0 (all_words answers) old
-  pub marks_are : marks ≡ last.marks
-  pub starts_are : xs ≡ last.starts
-  pub free_are : free ≡ last.free
+  pub marks_are : marks ≡ s'.marks
+  pub starts_are : xs ≡ s'.starts
+  pub free_are : free ≡ s'.free

@@ -76,7 +76,7 @@ fn write_reply(replies: &mut [u64], i: usize, reply: Result<Reply, Refusal>)
     replies[i + 1] = second;
 }
 
-// The first n calls, one after the other, with their answers; the checkpoints that are open then. What the calls leave is in the lent arrays, whatever they held.
+// The first n calls, one after the other, with their answers; the checkpoints that are open then. The session is the one that the calls lead to, and its starts and numbers are also in the lent arrays, whatever they held.
 pub fn run(
     session: &mut Session,
     rows: &mut [u64],
@@ -87,7 +87,7 @@ pub fn run(
     free: &mut [u16; 24],
 ) -> usize
     requires { Valid session.old rows.old × (3 * n ≤ length calls.now) × (2 * n ≤ length replies.old) }
-    ensures { Made (first_calls calls.now n) session.old rows.old replies.old result rows.new replies.new starts.new free.new }
+    ensures { Made (first_calls calls.now n) session.old rows.old replies.old result session.new rows.new replies.new starts.new free.new }
 {
     for i in 0..n {
         let call = call_of(
