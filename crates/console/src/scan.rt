@@ -39,7 +39,9 @@ pub struct Scanned {
 fn skip(text: &[u8], at: usize) -> usize
     ensures { result ≡ begin text.now at }
 {
-    at + text.iter().skip(at).take_while(|b| **b == b' ').count()
+    // (Of the rest alone: an iterator's `skip` would go through all that stands before it.)
+    let rest = &text[at.min(text.len())..];
+    at + rest.iter().take_while(|b| **b == b' ').count()
 }
 
 // A number with one digit more, or the largest number where that is too large.
