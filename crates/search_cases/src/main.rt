@@ -16,14 +16,12 @@ fn found(s: Solution) {
     );
 }
 
-// `: refused N at D`, and ` after K` where a search was made.
+// `: refused N at D`, with ` after K` where a search was made.
 fn refused(unsolved: Unsolved) {
-    console::list(b": refused % at %", &[unsolved.number(), unsolved.detail()]);
+    let numbers = [unsolved.number(), unsolved.detail(), unsolved.probes()];
     match unsolved {
-        Unsolved::NoSchedule { probes, .. } | Unsolved::BudgetSpent { probes, .. } => {
-            console::list(b" after %", &[probes])
-        }
-        Unsolved::Refused(_) => {}
+        Unsolved::Refused(_) => console::list(b": refused % at %", &numbers),
+        _ => console::list(b": refused % at % after %", &numbers),
     }
 }
 
